@@ -1,0 +1,1 @@
+// What every layer stands on: choosing by a test. Definitions and laws alone, no code.

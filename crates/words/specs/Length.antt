@@ -1,0 +1,23 @@
+-- A port's length and the cut of a character to it (document 01, what the lines do; 001, 4.2 bits 10 and 11).
+-- Assumes nothing.
+use Prim.Native.Nat.{ℕ, _+_, _%_, _^_, _<_}
+use lib.Pow.{pow-pos}
+use Rattle.words.specs.Field.{get}
+use Rattle.words.specs.Codes.{LENGTH}
+
+-- the data bits of a character: 5, 6, 7 or 8
+unfoldable pub lengthOf : ℕ → ℕ
+lengthOf control = 5 + get LENGTH control
+
+-- how many codes a character of that length can have
+unfoldable pub spanOf : ℕ → ℕ
+spanOf control = 2 ^ lengthOf control
+
+-- the character with the bits above the port's length made 0
+unfoldable pub cut : ℕ → ℕ → ℕ
+cut control c = c % spanOf control
+
+-- every length has a code
+pub span-positive : (control : ℕ) → 0 < spanOf control
+unfolding spanOf
+span-positive control = pow-pos (lengthOf control)

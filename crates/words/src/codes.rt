@@ -1,0 +1,139 @@
+// The bit codes of the control words, the control bits and the status word, with the names of specs/Codes.antt, which draws each word.
+use crate::field::Field;
+
+// The words of a block (document 01, the unit and the host's memory).
+pub const ICW: usize = 0;
+
+pub const OCW: usize = 1;
+
+pub const IBP: usize = 4;
+
+pub const OBP: usize = 5;
+
+pub const LIB: usize = 6;
+
+pub const LOB: usize = 7;
+
+// ICW, word 0 of a block (001, section 4.1).
+pub const INDONE: Field = Field {
+    unit: 32768,
+    span: 2,
+};
+
+pub const INMO: Field = Field {
+    unit: 8192,
+    span: 4,
+};
+
+pub const IN_SINGLE: u16 = 0;
+
+pub const IN_NONE: u16 = 1;
+
+pub const IN_ECHO: u16 = 3;
+
+pub const SEVEN: Field = Field {
+    unit: 4096,
+    span: 2,
+};
+
+pub const FLAGS: Field = Field {
+    unit: 1024,
+    span: 4,
+};
+
+pub const FLAG_NONE: u16 = 0;
+
+pub const FLAG_PARITY: u16 = 1;
+
+pub const FLAG_OVERLOAD: u16 = 2;
+
+pub const FLAG_BREAK: u16 = 3;
+
+pub const UNECHOED: Field = Field { unit: 512, span: 2 };
+
+pub const UNECHOED_BY_ERROR: u16 = 0;
+
+pub const UNECHOED_BY_SPECIAL: u16 = 0;
+
+pub const LATE: Field = Field { unit: 256, span: 2 };
+
+pub const CHARACTER: Field = Field { unit: 1, span: 256 };
+
+// OCW, word 1 of a block (001, section 4.2).
+pub const OUTDONE: Field = Field {
+    unit: 32768,
+    span: 2,
+};
+
+pub const OUTMO: Field = Field {
+    unit: 8192,
+    span: 4,
+};
+
+pub const OUT_NONE: u16 = 0;
+
+pub const OUT_AUTO: u16 = 1;
+
+pub const OUT_CONTROL: u16 = 2;
+
+pub const REQUEST: Field = Field {
+    unit: 4096,
+    span: 2,
+};
+
+pub const STATUS: Field = Field {
+    unit: 2048,
+    span: 2,
+};
+
+pub const PREVIOUS: Field = Field {
+    unit: 1024,
+    span: 2,
+};
+
+pub const UNUSED: Field = Field { unit: 512, span: 2 };
+
+pub const CHANGED: Field = Field { unit: 256, span: 2 };
+
+// The eight control bits of a port, bits 8 to 15 of a port control OCW (001, section 4.2).
+pub const INHIBIT: Field = Field { unit: 128, span: 2 };
+
+pub const LENGTH: Field = Field { unit: 16, span: 4 };
+
+pub const SPEED: Field = Field { unit: 1, span: 8 };
+
+// The status word (001, section 4.7).
+pub const TICK: Field = Field {
+    unit: 32768,
+    span: 2,
+};
+
+pub const MANY: Field = Field {
+    unit: 16384,
+    span: 2,
+};
+
+pub const INPUT: Field = Field {
+    unit: 8192,
+    span: 2,
+};
+
+pub const OUTPUT: Field = Field {
+    unit: 4096,
+    span: 2,
+};
+
+pub const ADDRESS: Field = Field {
+    unit: 32,
+    span: 128,
+};
+
+pub const BELOW: Field = Field { unit: 1, span: 32 };
+
+// The halves of a word (document 01, Input 6).
+pub const LEFT: Field = Field {
+    unit: 256,
+    span: 256,
+};
+
+pub const RIGHT: Field = Field { unit: 1, span: 256 };
