@@ -1,0 +1,22 @@
+-- `interrupt::busy` meets its contract: bit 2, else bit 3.
+use borrow.Author.Needs.{needs}
+use Rattle.interrupt.proofs.busy.Statement.{statement}
+use Rattle.interrupt.specs.Interrupt.{busy}
+use Rattle.interrupt.proofs.busy.Tie as tie
+
+is-set-requires : tie.Need-is-set-requires
+is-set-requires c κs = search needs
+
+returns : tie.Need-returns
+unfolding busy
+returns c = simp (← c .before .is-set .ensures, c .if1 .taken)
+
+is-set-requires-2 : tie.Need-is-set-requires-2
+is-set-requires-2 c κs = search needs
+
+returns-2 : tie.Need-returns-2
+unfolding busy
+returns-2 c = simp (← c .before .before .is-set .ensures, c .before .if1 .left) (c .is-set2 .ensures)
+
+pub busy-spec : {M : Type 1} → statement M
+busy-spec = tie.close (tie.spec is-set-requires returns is-set-requires-2 returns-2)
