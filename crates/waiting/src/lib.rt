@@ -1,0 +1,1 @@
+// Demand 3: nobody waits for ever. Theorems over any list of calls; no code.
