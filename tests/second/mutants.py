@@ -1,0 +1,291 @@
+"""Wrong second programs, each with one error, that the fixed sessions must tell from the right one.
+
+A mutant is mux2.py with one piece of its text replaced. The test fails if a
+mutant prints every line of the fixed set as mux2 does. Those marked `seen` are the
+errors that document 01 has seen other emulators make.
+
+    mutants.py [--quiet]
+"""
+
+import pathlib
+import sys
+import time
+import types
+
+import play
+import sessions
+
+SOURCE = pathlib.Path(__file__).with_name('mux2.py').read_text()
+
+MUTANTS = [
+    # Document 01, errors seen.
+    ('seen: special stored and reported as well',
+     "            self.hit('input 5: special')\n",
+     "            memory.put(block + 4, self.step(ibp))\n"
+     "            memory.put_byte(self.step(ibp), BYTE_OF[stored])\n"),
+    ('seen: scan from port 0 after each input',
+     "            return self.input(p)\n",
+     "            r.pos = 0\n            return self.input(p)\n"),
+    ('seen: scan from port 0 after each output',
+     "            return self.output(p)\n",
+     "            r.pos = 0\n            return self.output(p)\n"),
+    ('seen: port number for the address',
+     "address = (r.base // r.block + p) % 128", "address = p"),
+    ('seen: byte stored before the pointer',
+     "            memory.put(block + 4, pointer)\n"
+     "            memory.put_byte(pointer, BYTE_OF[stored])\n",
+     "            memory.put_byte(pointer, BYTE_OF[stored])\n"
+     "            memory.put(block + 4, pointer)\n"),
+    ('seen: replacement without its mark', "overload=port.held)", "overload=0)"),
+
+    # Setup and refusals.
+    ('P checked before b',
+     "        if b not in (8, 16, 32):\n            return 1\n"
+     "        if ports == 0 or ports > 128:\n            return 2\n",
+     "        if ports == 0 or ports > 128:\n            return 2\n"
+     "        if b not in (8, 16, 32):\n            return 1\n"),
+    ('128 ports refused', "ports > 128:", "ports > 127:"),
+    ('base a multiple of b only', "base % (8 * b) != 0", "base % b != 0"),
+    ('area may cross', "(base + ports * b - 1) // (128 * b)", "base // (128 * b)"),
+    ('area may not reach its end', "(base + ports * b - 1) // (128 * b)",
+     "(base + ports * b) // (128 * b)"),
+    ('refused setup gives a fresh record',
+     "made = Record()\n", "made = Record()\n        made.port = [FRESH_PORT] * ARRAY\n"),
+    ('setup makes only P ports', "made.port = [FRESH_PORT] * ARRAY",
+     "made.port = [FRESH_PORT] * ports + [ZERO_PORT] * (ARRAY - ports)"),
+    ('position P is sound', "if r.pos >= r.ports:", "if r.pos > r.ports:"),
+    ('memory checked before the record',
+     "        if self.unsound():\n            return 6\n"
+     "        if memory and self.memory.lent != WORDS:\n            return 7\n",
+     "        if memory and self.memory.lent != WORDS:\n            return 7\n"
+     "        if self.unsound():\n            return 6\n"),
+    ('longer memory accepted', "self.memory.lent != WORDS", "self.memory.lent < WORDS"),
+    ('port P accepted', "port >= self.record.ports", "port > min(self.record.ports, ARRAY - 1)"),
+    ('sweep of 4097 accepted', "inspections > 4096:", "inspections > 4097:"),
+    ('sweep of 4096 refused', "inspections > 4096:", "inspections > 4095:"),
+    ('list checked before the count',
+     "        if inspections is not None and inspections > 4096:\n            return 9\n"
+     "        if inspections is not None and self.lent_places < inspections:\n            return 10\n",
+     "        if inspections is not None and self.lent_places < inspections:\n            return 10\n"
+     "        if inspections is not None and inspections > 4096:\n            return 9\n"),
+    ('list of one place too few accepted',
+     "and self.lent_places < inspections:\n            return 10",
+     "and self.lent_places + 1 < inspections:\n            return 10"),
+    ('stopped sweep not checked',
+     "        code = self.refusal('sweep', memory=True, inspections=n)\n",
+     "        code = self.record.runs and self.refusal('sweep', memory=True, inspections=n)\n"),
+    ('refuses everything', "        code = self.table(memory, port, inspections)\n",
+     "        code = 6\n"),
+
+    # Lines and processor.
+    ('character not cut', "kept = (0,) * (8 - length) + BYTE_BITS[byte][8 - length:]",
+     "kept = BYTE_BITS[byte]"),
+    ('control bits 10 and 11 exchanged', "5 + 2 * port.control[2] + port.control[3]",
+     "5 + port.control[2] + 2 * port.control[3]"),
+    ('mark of the replaced one lost', "overload=port.held)",
+     "overload=int(port.held and not port.overload))"),
+    ('transmitted does nothing', "self.change(p, empty=1)\n", "pass\n"),
+    ('Device Status line upside down',
+     "self.change(p, line=level)", "self.change(p, line=1 - level)"),
+    ('reset keeps the position', "r.runs = r.clock = r.irq = r.status = r.pos = 0",
+     "r.runs = r.clock = r.irq = r.status = 0"),
+    ('reset keeps the clock', "r.runs = r.clock = r.irq = r.status = r.pos = 0",
+     "r.runs = r.irq = r.status = r.pos = 0"),
+    ('reset forgets the last port', "for p in range(ARRAY):",
+     "for p in [q for q in range(ARRAY) if q != r.ports - 1]:"),
+    ('reset forgets places past P', "for p in range(ARRAY):", "for p in range(r.ports):"),
+    ('reset clears all control bits', "control=port.control[:5] + (0, 0, 0), ", ""),
+    ('reset keeps the speed', "control=port.control[:5] + (0, 0, 0)", "control=port.control"),
+    ('reset drops the Device Status line', ", line=port.line)", ")"),
+    ('DIAS reads after the clear',
+     "        value = self.record.status\n        self.clear_status()\n",
+     "        self.clear_status()\n        value = self.record.status\n"),
+    ('DIA clears', "return (code, 0) if code else (0, self.record.status)",
+     "return (code, 0) if code else self.dias()"),
+    ('START keeps the flag', "self.record.irq = self.record.status = 0", "self.record.status = 0"),
+    ('tick without the clock', "        if self.record.clock:\n", "        if True:\n"),
+    ('tick clears the status word',
+     "            status = bits_of(self.record.status)\n            status[0] = 1\n",
+     "            status = bits_of(32768)\n"),
+    ('DOC starts at port 0', "            self.record.runs = 1\n",
+     "            self.record.runs = 1\n            self.record.pos = 0\n"),
+
+    # The turn.
+    ('output before input', "        if port.held:\n            self.hit('turn: input')",
+     "        if port.held and not port.empty:\n            self.hit('turn: input')"),
+    ('position stays on an idle turn', "        self.hit('turn: idle')\n",
+     "        r.pos = p\n"),
+    ('idle turn names no port',
+     "return Answer(IDLE, p, 0, 0, 0)", "return Answer(IDLE, 0, 0, 0, 0)"),
+    ('only the first inspection serves',
+     "        port = r.port[p]\n        if port.held:\n            self.hit('turn: input')",
+     "        port = r.port[p]\n        if self.services:\n            return Answer(IDLE, p, 0, 0, 0)\n"
+     "        if port.held:\n            self.hit('turn: input')"),
+    ('answers nothing each time', "return (code, NO_ANSWER) if code else (0, self.turn())",
+     "return code, NO_ANSWER"),
+    ('block of the next port', "self.record.base + p * self.record.block",
+     "self.record.base + (p + 1) % self.record.ports * self.record.block"),
+    ('pointer sticks at 65535',
+     "65535 to 0')\n            return 0", "65535 to 0')\n            return 65535"),
+    ('special looks at eight bits', "BYTE_OF[(0,) + character[1:]]", "BYTE_OF[character]"),
+    ('124 is ordinary', "low > 0o173", "low > 0o174"),
+    ('123 is special', "low > 0o173", "low >= 0o173"),
+    ('32 is special', "low < 0o40", "low <= 0o40"),
+
+    # Input.
+    ('parity and overload codes exchanged',
+     "= [0, 0], [0, 1], [1, 0], [1, 1]", "= [0, 0], [1, 0], [0, 1], [1, 1]"),
+    ('break before overload',
+     "        if port.overload:\n            self.hit('code: overload before",
+     "        if port.overload and not port.brk:\n            self.hit('code: overload before"),
+    ('parity reported though inhibited', "port.parity and port.control[0] == 0", "port.parity"),
+    ('marks stay after the service', "held=0, byte=0, parity=0, brk=0, overload=0)", "held=0)"),
+    ('top bit not set in the buffer', "memory.put_byte(pointer, BYTE_OF[stored])",
+     "memory.put_byte(pointer, BYTE_OF[character])"),
+    ('top bit set in the echo',
+     "sent, byte = 1, BYTE_OF[character]", "sent, byte = 1, BYTE_OF[stored]"),
+    ('top bit not set in ICW', "echo_mark, stored\n", "echo_mark, character\n"),
+    ('top bit not set where INDONE is', "= code, 1, stored", "= code, 1, character"),
+    ('bit 7 not set where INDONE is', "icw[4:6], icw[7], icw[8:16] = code, 1, stored",
+     "icw[4:6], icw[8:16] = code, stored"),
+    ('INDONE does not matter', "        if icw[0]:\n", "        if False:\n"),
+    ('interrupt again where INDONE is',
+     "= code, 1, stored\n            memory.put(block, word_of(icw))\n            return Answer(INPUT, p, 0, 0, 0)",
+     "= code, 1, stored\n            memory.put(block, word_of(icw))\n            self.interrupt(p, 2)\n"
+     "            return Answer(INPUT, p, 0, 0, 1)"),
+    ('mode 01 is single',
+     "if mode == [0, 1]:\n            self.hit('input 2",
+     "if False:\n            self.hit('input 2"),
+    ('error stored in the buffer', "elif code != NONE:", "elif False:"),
+    ('special outside 7-bit ASCII',
+     "elif ascii7 and self.special(character):", "elif self.special(character):"),
+    ('halves exchanged on input', "memory.put_byte(pointer, BYTE_OF[stored])",
+     "memory.put_byte(pointer ^ 1, BYTE_OF[stored])"),
+    ('byte stored where IBP was', "memory.put_byte(pointer, BYTE_OF[stored])",
+     "memory.put_byte(ibp, BYTE_OF[stored])"),
+    ('stray store far from the port', "memory.put_byte(pointer, BYTE_OF[stored])",
+     "memory.put_byte(pointer, BYTE_OF[stored])\n            memory.put(WORDS - 1 - pointer // 2, 0)"),
+    ('input done one early', "done = pointer == lib", "done = (pointer + 1) % 65536 == lib"),
+    ('input done one late', "done = pointer == lib", "done = ibp == lib"),
+    ('LIB read after the store',
+     "done = pointer == lib", "done = pointer == memory.word(block + 6)"),
+    ('ICW read again after the store', "            icw[0], icw[4:6], icw[6], icw[8:16] =",
+     "            icw = bits_of(memory.word(block))\n            icw[0], icw[4:6], icw[6], icw[8:16] ="),
+    ('echo into a full transmitter', "                if port.empty:\n                    sent",
+     "                if True:\n                    sent"),
+    ('echo leaves the transmitter empty',
+     "                    self.change(p, empty=0)\n                else:",
+     "                    pass\n                else:"),
+    ('busy echo is not done', "echo_mark, done = 1, True", "echo_mark = 1"),
+    ('old echo mark kept', "icw[0], icw[4:6], icw[6], icw[8:16] = 1, code, echo_mark, stored",
+     "icw[0], icw[4:6], icw[6], icw[8:16] = 1, code, icw[6] | echo_mark, stored"),
+    ('bit 7 of ICW cleared when done', "            icw[0], icw[4:6], icw[6], icw[8:16] =",
+     "            icw[7] = 0\n            icw[0], icw[4:6], icw[6], icw[8:16] ="),
+    ('ICW written when not done', "            self.hit('input: ICW not written')\n",
+     "            memory.put(block, word_of(icw))\n"),
+
+    # Output.
+    ('bit 5 takes the line', "        ocw[5] = ocw[4]\n", "        ocw[5] = port.line\n"),
+    ('bit 7 cleared where the line is as read', "        if differs:\n            ocw[7] = 1\n",
+     "        ocw[7] = int(differs)\n"),
+    ('bit 7 always interrupts', "becomes = differs and ocw[7] == 0", "becomes = differs"),
+    ('bit 7 never interrupts', "        if becomes:\n            self.hit('output: bit 7 and",
+     "        if False:\n            self.hit('output: bit 7 and"),
+    ('OUTDONE ignored', "        if outdone:\n", "        if False:\n"),
+    ('status bits not written where OUTDONE is',
+     "memory.put(block + 1, word_of(ocw))\n            return", "return"),
+    ('bit 6 cleared where OUTDONE is',
+     "            memory.put(block + 1, word_of(ocw))\n            return",
+     "            ocw[6] = 0\n            memory.put(block + 1, word_of(ocw))\n            return"),
+    ('bit 6 kept', "        ocw[6] = 0\n", ""),
+    ('OBP not written', "            memory.put(block + 5, pointer)\n", ""),
+    ('byte fetched before OBP is written',
+     "            memory.put(block + 5, pointer)\n            sent, byte = 1, memory.byte(pointer)\n",
+     "            sent, byte = 1, memory.byte(pointer)\n            memory.put(block + 5, pointer)\n"),
+    ('halves exchanged on output', "memory.byte(pointer)", "memory.byte(pointer ^ 1)"),
+    ('output done one early', "pointer == lob", "(pointer + 1) % 65536 == lob"),
+    ('output done one late', "pointer == lob", "obp == lob"),
+    ('special always ends output', "(asks_special == 1 and special)", "special"),
+    ('special byte reported in OCW', "            self.note_fetch(block,",
+     "            ocw[8:16] = BYTE_BITS[byte] if asks_special and special else ocw[8:16]\n"
+     "            self.note_fetch(block,"),
+    ('Device Control not set', "self.change(p, level=ocw[3], control=", "self.change(p, control="),
+    ('port control fills the transmitter', "self.change(p, level=ocw[3], control=",
+     "self.change(p, empty=0, level=ocw[3], control="),
+    ('single output leaves the transmitter empty',
+     "        if sent:\n            self.change(p, empty=0)\n",
+     "        if sent and mode == [0, 1]:\n            self.change(p, empty=0)\n"),
+
+    # Interrupt and sweep.
+    ('status bit 1 never set', "            status[1] = 1\n", ""),
+    ('status bit 1 only for the other kind',
+     "        if status[2] or status[3]:", "        if status[5 - kind]:"),
+    ('status bits 2 and 3 exchanged',
+     "        status[kind] = 1\n", "        status[5 - kind] = 1\n"),
+    ('old address bits stay', "status[4:11] = BYTE_BITS[address][1:]",
+     "status[4:11] = [a | b for a, b in zip(status[4:11], BYTE_BITS[address][1:])]"),
+    ('status bits 11 to 15 kept', "        status[11:16] = [0] * 5\n", ""),
+    ('flag not raised',
+     "        r.status = word_of(status)\n        r.irq = 1\n",
+     "        r.status = word_of(status)\n"),
+    ('sweep does not stop on an interrupt',
+     "else 'sweep: stops on an interrupt')\n                break\n",
+     "else 'sweep: stops on an interrupt')\n"),
+    ('sweep stops on a byte',
+     "            if answer.raised:\n", "            if answer.raised or answer.sent:\n"),
+    ('list place skipped', "self.places[used] =", "self.places[used + 1] ="),
+    ('list has byte and port exchanged',
+     "answer.port * 256 + answer.byte", "answer.byte * 256 + answer.port"),
+    ('echo not listed',
+     "            if answer.sent:\n", "            if answer.sent and answer.turn == OUTPUT:\n"),
+    ('places past the last one cleared', "        return 0, made, used\n",
+     "        self.places[used:n] = [0] * (n - used)\n        return 0, made, used\n"),
+    ('sweep invents its count', "        return 0, made, used\n", "        return 0, n, used\n"),
+]
+
+
+def program(old, new):
+    """The second program with one piece of its text replaced."""
+    if SOURCE.count(old) != 1:
+        raise ValueError(f'found {SOURCE.count(old)} times, not once: {old!r}')
+    module = types.ModuleType('mutant')
+    exec(compile(SOURCE.replace(old, new), 'mutant', 'exec'), module.__dict__)
+    return module.Mux2
+
+
+def first_difference(mutant, author):
+    """The number of the first call that the mutant answers otherwise, or None."""
+    player = play.Player(mutant)
+    printed = iter(author.printed)
+    call = 0
+    for order in author.orders:
+        call += order[0] in play.CALLS
+        line = player.play(order)
+        if line is not None and line != next(printed):
+            return call
+    return None
+
+
+def main():
+    began = time.time()
+    alive = {name: program(old, new) for name, old, new in MUTANTS}
+    if len(alive) < len(MUTANTS):
+        sys.exit('two mutants have one name')
+    for number, (author, _) in enumerate(sessions.fixed_set(), 1):
+        for name in list(alive):
+            call = first_difference(alive[name], author)
+            if call is not None:
+                del alive[name]
+                if '--quiet' not in sys.argv:
+                    print(f'session {number:3}, call {call:4} ({author.kind}): {name}', flush=True)
+        if not alive:
+            break
+    print(f'{len(MUTANTS) - len(alive)} of {len(MUTANTS)} mutants told apart; '
+          f'{time.time() - began:.1f} s')
+    for name in alive:
+        print(f'survives: {name}')
+    sys.exit(1 if alive else 0)
+
+
+if __name__ == '__main__':
+    main()

@@ -1,0 +1,577 @@
+"""A second EDS-8, for comparison with the proved one.
+
+Written from document 01 and the 1974 manual (001) alone. It takes another road
+than the proved program: a word is a list of sixteen 0s and 1s indexed by the
+manual's bit numbers, a port is an immutable object, and memory is a bytearray
+in which a byte pointer is simply an index. Each branch of document 01 has a
+name, and `reached` counts how often it was taken.
+"""
+
+from collections import namedtuple
+
+WORDS = 32768                   # the host's memory, in words
+ROOM = 40000                    # words kept here, so that other lengths can be lent
+PLACES = 4200                   # places kept for a sweep's list
+ARRAY = 128                     # places in the record's array of ports
+
+NOTHING, IDLE, INPUT, OUTPUT = range(4)                 # what a turn may be
+Answer = namedtuple('Answer', 'turn port sent byte raised')
+NO_ANSWER = Answer(NOTHING, 0, 0, 0, 0)
+
+# Bits: index 0 is the top bit, as in the manuals.
+BYTE_BITS = [tuple(int(d) for d in format(n, '08b')) for n in range(256)]
+BYTE_OF = {bits: n for n, bits in enumerate(BYTE_BITS)}
+
+
+def bits_of(word):
+    return list(BYTE_BITS[word // 256] + BYTE_BITS[word % 256])
+
+
+def word_of(bits):
+    return BYTE_OF[tuple(bits[:8])] * 256 + BYTE_OF[tuple(bits[8:])]
+
+
+# Bits 4 and 5 of ICW (001, 4.1).
+NONE, PARITY, OVERLOAD, BREAK = [0, 0], [0, 1], [1, 0], [1, 1]
+
+# A port: the held character with its marks, then the transmitter and the lines.
+# `control` holds the control bits 8 to 15 as a tuple of eight.
+Port = namedtuple('Port', 'held byte parity brk overload empty control level line')
+ZERO_PORT = Port(0, 0, 0, 0, 0, 0, BYTE_BITS[0], 0, 0)
+FRESH_PORT = ZERO_PORT._replace(empty=1, level=1)
+
+
+class Record:
+    """What the unit remembers; as made here, the record of zeros."""
+
+    def __init__(self):
+        self.block = self.ports = self.base = self.pos = 0
+        self.runs = self.clock = self.irq = self.status = 0
+        self.port = [ZERO_PORT] * ARRAY
+
+
+class Memory:
+    """The host's words, kept as bytes: an even pointer is a left half."""
+
+    def __init__(self):
+        self.halves = bytearray(2 * ROOM)
+        self.lent = WORDS
+
+    def word(self, address):
+        return self.halves[2 * address] * 256 + self.halves[2 * address + 1]
+
+    def put(self, address, word):
+        self.halves[2 * address] = word // 256
+        self.halves[2 * address + 1] = word % 256
+
+    def byte(self, pointer):
+        return self.halves[pointer]
+
+    def put_byte(self, pointer, byte):
+        self.halves[pointer] = byte
+
+
+SETUP_CALLS = {'setup': (1, 2, 3, 4, 5)}
+PLAIN_CALLS = ('reset', 'iopls', 'start', 'doc', 'dob', 'dia', 'dias', 'tick')
+LINE_CALLS = ('arrival', 'transmitted', 'device_status')
+REFUSALS = {**SETUP_CALLS, **{call: (6,) for call in PLAIN_CALLS},
+            **{call: (6, 8) for call in LINE_CALLS},
+            'inspect': (6, 7), 'sweep': (6, 7, 9, 10)}
+
+# Refusal 5 can never be given: 32768 is a multiple of 128b for each b, so an
+# area that passes it has crossed such a multiple and was refused with 4.
+UNREACHABLE = {'setup refused 5'}
+
+BRANCHES = (
+    [f'{call} refused {code}' for call, codes in REFUSALS.items() for code in codes]
+    + [f'{call} accepted' for call in REFUSALS]
+    + [f'unsound: setup gives {code}' for code in (1, 2, 3, 4)]
+    + ['unsound: position', 'sweep refused 9 before 10',
+       'arrival at a free port', 'arrival replaces a character', 'arrival replaces a marked one',
+       'arrival is cut to 5', 'arrival is cut to 6', 'arrival is cut to 7', 'arrival of 8',
+       'arrival in a stopped unit', 'transmitter becomes empty', 'transmitter already empty',
+       'line changes', 'line keeps its level',
+       'reset drops a character', 'reset empties a transmitter', 'reset clears speed bits',
+       'tick with the clock on', 'tick with the clock off',
+       'turn: stopped', 'turn: input', 'turn: input before output', 'turn: output', 'turn: idle',
+       'turn: position steps', 'turn: position starts again',
+       'code: overload', 'code: overload before break', 'code: break', 'code: break before parity',
+       'code: parity', 'code: parity inhibited', 'code: none',
+       'input 1: INDONE already set', 'input 2: no input asked', 'input 3: single',
+       'input 4: error', 'input 5: special', 'input 6: stored',
+       'input: top bit set in ICW', 'input: top bit set in the buffer',
+       'input 6: ordinary in 7-bit ASCII', 'input 6: special code outside 7-bit ASCII',
+       'input 6: left half', 'input 6: right half',
+       'input 6: last byte', 'input 6: not last', 'input 6: no echo asked',
+       'input 6: echoed', 'input 6: last byte echoed',
+       'input 6: transmitter busy', 'input 6: last byte, transmitter busy',
+       'input 6: buffer on ICW, done', 'input 6: buffer on ICW, not done',
+       'input 6: buffer on IBP', 'input 6: buffer on LIB', 'input: done', 'input: ICW not written',
+       'output: OUTDONE already set', 'output: OUTDONE set, bit 7 becomes 1',
+       'output 00: nothing', 'output 01: automatic', 'output 01: last byte',
+       'output 01: special, asked for', 'output 01: special, not asked for',
+       'output 01: neither', 'output 01: last byte and special', 'output 01: byte fetched from OBP',
+       'output 10: port control', 'output 11: single',
+       'output: line differs', 'output: line as read', 'output: bit 7 kept at 1',
+       'output: bit 7 alone makes it done', 'output: bit 7 and mode make it done',
+       'output: bit 7 was 1, line differs', 'output: bit 6 cleared', 'output: bit 6 kept',
+       'output: done', 'output: not done',
+       'pointer steps', 'pointer steps from 65535 to 0',
+       'interrupt: first', 'interrupt: more than one', 'interrupt beside a tick',
+       'interrupt: base below 128 blocks', 'interrupt: base of 128 blocks or more',
+       'sweep: stopped unit', 'sweep of none', 'sweep: stops on an interrupt', 'sweep: all made',
+       'sweep: interrupt at the last one', 'sweep of 4096', 'sweep: byte listed', 'sweep: no byte'])
+
+
+class Mux2:
+    """The unit, the host's memory and the list, with one method for each call."""
+
+    def __init__(self, memory=None):
+        self.record = Record()
+        self.memory = memory or Memory()
+        self.places = [0] * PLACES      # the sweep's list
+        self.lent_places = 0            # how many of them are lent
+        self.reached = dict.fromkeys(BRANCHES, 0)
+        self.services = 0
+
+    def hit(self, branch):
+        self.reached[branch] += 1
+
+    def change(self, p, **fields):
+        self.record.port[p] = self.record.port[p]._replace(**fields)
+
+    # Refusals, in the order of the table.
+
+    def setup_refusal(self, b, ports, base):
+        if b not in (8, 16, 32):
+            return 1
+        if ports == 0 or ports > 128:
+            return 2
+        if base % (8 * b) != 0 or base > 32767:
+            return 3
+        if base // (128 * b) != (base + ports * b - 1) // (128 * b):
+            return 4
+        if base + ports * b > 32768:
+            return 5
+        return 0
+
+    def unsound(self):
+        r = self.record
+        code = self.setup_refusal(r.block, r.ports, r.base)
+        if code:
+            self.hit(f'unsound: setup gives {code}')
+            return True
+        if r.pos >= r.ports:
+            self.hit('unsound: position')
+            return True
+        return False
+
+    def table(self, memory, port, inspections):
+        if self.unsound():
+            return 6
+        if memory and self.memory.lent != WORDS:
+            return 7
+        if port is not None and port >= self.record.ports:
+            return 8
+        if inspections is not None and inspections > 4096:
+            return 9
+        if inspections is not None and self.lent_places < inspections:
+            return 10
+        return 0
+
+    def refusal(self, call, memory=False, port=None, inspections=None):
+        code = self.table(memory, port, inspections)
+        self.hit(f'{call} refused {code}' if code else f'{call} accepted')
+        if code == 9 and self.lent_places < inspections:
+            self.hit('sweep refused 9 before 10')
+        return code
+
+    # Setup gives a new record and leaves the old one.
+
+    def setup(self, b, ports, base):
+        code = self.setup_refusal(b, ports, base)
+        self.hit(f'setup refused {code}' if code else 'setup accepted')
+        made = Record()
+        if code == 0:
+            made.block, made.ports, made.base = b, ports, base
+            made.port = [FRESH_PORT] * ARRAY
+        return code, made
+
+    # What the lines do.
+
+    def arrival(self, p, byte, parity, brk):
+        code = self.refusal('arrival', port=p)
+        if code:
+            return code
+        port = self.record.port[p]
+        length = 5 + 2 * port.control[2] + port.control[3]     # control bits 10 and 11
+        self.hit(f'arrival is cut to {length}' if length < 8 else 'arrival of 8')
+        if port.held:
+            self.hit('arrival replaces a marked one' if port.overload
+                     else 'arrival replaces a character')
+        else:
+            self.hit('arrival at a free port')
+        if not self.record.runs:
+            self.hit('arrival in a stopped unit')
+        kept = (0,) * (8 - length) + BYTE_BITS[byte][8 - length:]
+        self.change(p, held=1, byte=BYTE_OF[kept], parity=parity, brk=brk, overload=port.held)
+        return 0
+
+    def transmitted(self, p):
+        code = self.refusal('transmitted', port=p)
+        if code:
+            return code
+        self.hit('transmitter already empty' if self.record.port[p].empty
+                 else 'transmitter becomes empty')
+        self.change(p, empty=1)
+        return 0
+
+    def device_status(self, p, level):
+        code = self.refusal('device_status', port=p)
+        if code:
+            return code
+        self.hit('line keeps its level' if self.record.port[p].line == level else 'line changes')
+        self.change(p, line=level)
+        return 0
+
+    # What the processor does.
+
+    def reset(self):
+        code = self.refusal('reset')
+        if code:
+            return code
+        r = self.record
+        r.runs = r.clock = r.irq = r.status = r.pos = 0
+        for p in range(ARRAY):
+            port = r.port[p]
+            if port.held:
+                self.hit('reset drops a character')
+            if not port.empty:
+                self.hit('reset empties a transmitter')
+            if 1 in port.control[5:]:
+                self.hit('reset clears speed bits')
+            r.port[p] = FRESH_PORT._replace(control=port.control[:5] + (0, 0, 0), line=port.line)
+        return 0
+
+    def iopls(self):
+        code = self.refusal('iopls')
+        if code == 0:
+            self.record.clock = 1
+        return code
+
+    def start(self):
+        code = self.refusal('start')
+        if code == 0:
+            self.clear_status()
+        return code
+
+    def clear_status(self):
+        self.record.irq = self.record.status = 0
+
+    def doc(self):
+        code = self.refusal('doc')
+        if code == 0:
+            self.record.runs = 1
+        return code
+
+    def dob(self):
+        code = self.refusal('dob')
+        if code == 0:
+            self.record.runs = 0
+        return code
+
+    def dia(self):
+        code = self.refusal('dia')
+        return (code, 0) if code else (0, self.record.status)
+
+    def dias(self):
+        code = self.refusal('dias')
+        if code:
+            return code, 0
+        value = self.record.status
+        self.clear_status()
+        return 0, value
+
+    def tick(self):
+        code = self.refusal('tick')
+        if code:
+            return code
+        if self.record.clock:
+            self.hit('tick with the clock on')
+            status = bits_of(self.record.status)
+            status[0] = 1
+            self.record.status = word_of(status)
+            self.record.irq = 1
+        else:
+            self.hit('tick with the clock off')
+        return 0
+
+    # One inspection.
+
+    def inspect(self):
+        code = self.refusal('inspect', memory=True)
+        return (code, NO_ANSWER) if code else (0, self.turn())
+
+    def turn(self):
+        r = self.record
+        if not r.runs:
+            self.hit('turn: stopped')
+            return NO_ANSWER
+        p = r.pos
+        r.pos = (p + 1) % r.ports
+        self.hit('turn: position steps' if r.pos else 'turn: position starts again')
+        port = r.port[p]
+        if port.held:
+            self.hit('turn: input')
+            if port.empty:
+                self.hit('turn: input before output')
+            return self.input(p)
+        if port.empty:
+            self.hit('turn: output')
+            return self.output(p)
+        self.hit('turn: idle')
+        return Answer(IDLE, p, 0, 0, 0)
+
+    def block_of(self, p):
+        return self.record.base + p * self.record.block
+
+    def step(self, pointer):
+        """The next byte pointer, for input and output alike."""
+        if pointer == 65535:
+            self.hit('pointer steps from 65535 to 0')
+            return 0
+        self.hit('pointer steps')
+        return pointer + 1
+
+    def special(self, character):
+        """Whether the low seven bits are below octal 40 or above octal 173."""
+        low = BYTE_OF[(0,) + character[1:]]
+        return low < 0o40 or low > 0o173
+
+    def error_code(self, port):
+        if port.overload:
+            self.hit('code: overload before break' if port.brk else 'code: overload')
+            return OVERLOAD
+        if port.brk:
+            self.hit('code: break before parity' if port.parity else 'code: break')
+            return BREAK
+        if port.parity and port.control[0] == 0:
+            self.hit('code: parity')
+            return PARITY
+        self.hit('code: parity inhibited' if port.parity else 'code: none')
+        return NONE
+
+    def input(self, p):
+        self.services += 1
+        memory, block, port = self.memory, self.block_of(p), self.record.port[p]
+        icw, ibp, lib = (memory.word(block + place) for place in (0, 4, 6))
+        icw = bits_of(icw)
+        self.change(p, held=0, byte=0, parity=0, brk=0, overload=0)
+        code = self.error_code(port)
+        character = BYTE_BITS[port.byte]
+        ascii7 = icw[3] == 1
+        stored = (1,) + character[1:] if ascii7 else character      # 001, 4.1 bit 3
+        mode = icw[1:3]
+        echo_mark, sent, byte = 0, 0, 0
+
+        if icw[0]:
+            self.hit('input 1: INDONE already set')
+            icw[4:6], icw[7], icw[8:16] = code, 1, stored
+            memory.put(block, word_of(icw))
+            return Answer(INPUT, p, 0, 0, 0)
+        if mode == [0, 1]:
+            self.hit('input 2: no input asked')
+            return Answer(INPUT, p, 0, 0, 0)
+        if mode == [0, 0]:
+            self.hit('input 3: single')
+            done = True
+        elif code != NONE:
+            self.hit('input 4: error')
+            done = True
+        elif ascii7 and self.special(character):
+            self.hit('input 5: special')
+            done = True
+        else:
+            self.hit('input 6: stored')
+            pointer = self.step(ibp)
+            memory.put(block + 4, pointer)
+            memory.put_byte(pointer, BYTE_OF[stored])
+            done = pointer == lib
+            if mode == [1, 1]:
+                if port.empty:
+                    sent, byte = 1, BYTE_OF[character]
+                    self.change(p, empty=0)
+                else:
+                    echo_mark, done = 1, True
+            self.note_store(block, pointer, lib, mode, port, done, ascii7, character)
+        if done:
+            self.hit('input: done')
+            if stored != character:
+                self.hit('input: top bit set in ICW')
+            icw[0], icw[4:6], icw[6], icw[8:16] = 1, code, echo_mark, stored
+            memory.put(block, word_of(icw))
+            self.interrupt(p, 2)
+        else:
+            self.hit('input: ICW not written')
+        return Answer(INPUT, p, sent, byte, int(done))
+
+    def note_store(self, block, pointer, lib, mode, port, done, ascii7, character):
+        """Counts what rule 6 met; changes nothing."""
+        self.hit('input 6: right half' if pointer % 2 else 'input 6: left half')
+        last = pointer == lib
+        self.hit('input 6: last byte' if last else 'input 6: not last')
+        if ascii7:
+            self.hit('input 6: ordinary in 7-bit ASCII')
+            if character[0] == 0:
+                self.hit('input: top bit set in the buffer')
+        elif self.special(character):
+            self.hit('input 6: special code outside 7-bit ASCII')
+        if mode == [1, 0]:
+            self.hit('input 6: no echo asked')
+        elif port.empty:
+            self.hit('input 6: last byte echoed' if last else 'input 6: echoed')
+        else:
+            self.hit('input 6: last byte, transmitter busy' if last
+                     else 'input 6: transmitter busy')
+        place = pointer // 2 - block
+        if place == 0:
+            self.hit('input 6: buffer on ICW, done' if done
+                     else 'input 6: buffer on ICW, not done')
+        elif place == 4:
+            self.hit('input 6: buffer on IBP')
+        elif place == 6:
+            self.hit('input 6: buffer on LIB')
+
+    def output(self, p):
+        self.services += 1
+        memory, block, port = self.memory, self.block_of(p), self.record.port[p]
+        ocw, obp, lob = (memory.word(block + place) for place in (1, 5, 7))
+        ocw = bits_of(ocw)
+        outdone, mode, asks_special = ocw[0], ocw[1:3], ocw[3]
+        differs = port.line != ocw[4]
+        becomes = differs and ocw[7] == 0
+        self.hit('output: line differs' if differs else 'output: line as read')
+        if ocw[7]:
+            self.hit('output: bit 7 was 1, line differs' if differs else 'output: bit 7 kept at 1')
+        ocw[5] = ocw[4]
+        ocw[4] = port.line
+        if differs:
+            ocw[7] = 1
+
+        if outdone:
+            self.hit('output: OUTDONE already set')
+            if becomes:
+                self.hit('output: OUTDONE set, bit 7 becomes 1')
+            if ocw[6]:
+                self.hit('output: bit 6 kept')
+            memory.put(block + 1, word_of(ocw))
+            return Answer(OUTPUT, p, 0, 0, 0)
+
+        sent, byte, done = 0, 0, False
+        if mode == [0, 0]:
+            self.hit('output 00: nothing')
+        elif mode == [0, 1]:
+            self.hit('output 01: automatic')
+            pointer = self.step(obp)
+            memory.put(block + 5, pointer)
+            sent, byte = 1, memory.byte(pointer)
+            last, special = pointer == lob, self.special(BYTE_BITS[byte])
+            done = last or (asks_special == 1 and special)
+            self.note_fetch(block, pointer, last, special, asks_special)
+        elif mode == [1, 0]:
+            self.hit('output 10: port control')
+            self.change(p, level=ocw[3], control=tuple(ocw[8:16]))
+            done = True
+        else:
+            self.hit('output 11: single')
+            sent, byte, done = 1, BYTE_OF[tuple(ocw[8:16])], True
+        if sent:
+            self.change(p, empty=0)
+        if becomes:
+            self.hit('output: bit 7 and mode make it done' if done
+                     else 'output: bit 7 alone makes it done')
+            done = True
+        if ocw[6]:
+            self.hit('output: bit 6 cleared')
+        ocw[6] = 0
+        if done:
+            ocw[0] = 1
+        memory.put(block + 1, word_of(ocw))
+        self.hit('output: done' if done else 'output: not done')
+        if done:
+            self.interrupt(p, 3)
+        return Answer(OUTPUT, p, sent, byte, int(done))
+
+    def note_fetch(self, block, pointer, last, special, asks_special):
+        """Counts what automatic output met; changes nothing."""
+        if last:
+            self.hit('output 01: last byte')
+        if special:
+            self.hit('output 01: special, asked for' if asks_special
+                     else 'output 01: special, not asked for')
+        if last and special and asks_special:
+            self.hit('output 01: last byte and special')
+        if not last and not special:
+            self.hit('output 01: neither')
+        if pointer // 2 == block + 5:
+            self.hit('output 01: byte fetched from OBP')
+
+    def interrupt(self, p, kind):
+        """Raises an interrupt; `kind` is the status bit, 2 for input and 3 for output."""
+        r = self.record
+        status = bits_of(r.status)
+        if status[2] or status[3]:
+            self.hit('interrupt: more than one')
+            status[1] = 1
+        else:
+            self.hit('interrupt: first')
+        if status[0]:
+            self.hit('interrupt beside a tick')
+        self.hit('interrupt: base below 128 blocks' if r.base // r.block < 128
+                 else 'interrupt: base of 128 blocks or more')
+        status[kind] = 1
+        address = (r.base // r.block + p) % 128
+        status[4:11] = BYTE_BITS[address][1:]
+        status[11:16] = [0] * 5
+        r.status = word_of(status)
+        r.irq = 1
+
+    # The sweep.
+
+    def sweep(self, n):
+        code = self.refusal('sweep', memory=True, inspections=n)
+        if code:
+            return code, 0, 0
+        if not self.record.runs:
+            self.hit('sweep: stopped unit')
+            return 0, 0, 0
+        if n == 0:
+            self.hit('sweep of none')
+        if n == 4096:
+            self.hit('sweep of 4096')
+        made = used = 0
+        while made < n:
+            answer = self.turn()
+            made += 1
+            if answer.sent:
+                self.hit('sweep: byte listed')
+                self.places[used] = answer.port * 256 + answer.byte
+                used += 1
+            else:
+                self.hit('sweep: no byte')
+            if answer.raised:
+                self.hit('sweep: interrupt at the last one' if made == n
+                         else 'sweep: stops on an interrupt')
+                break
+        else:
+            self.hit('sweep: all made')
+        return 0, made, used
+
+    # The host.
+
+    def host_write(self, address, word):
+        self.memory.put(address, word)
+
+
+# The line speeds by control bits 13 to 15, 000 first (001, 4.2).
+SPEEDS = (110, 150, 300, 600, 1200, 2400, 4800, 9600)

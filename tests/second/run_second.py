@@ -1,0 +1,66 @@
+"""Writes sessions and what a driver must print for them; counts the branches they reach.
+
+    run_second.py [--seed N] [--sessions N] [--text FILE] [--expected FILE] [--quiet]
+
+Without numbers it is the fixed set of the gate. That set fails if it never
+reaches some branch of the second program, or is smaller than promised.
+"""
+
+import argparse
+import sys
+import time
+
+import mux2
+import sessions
+
+LEAST_SESSIONS, LEAST_CALLS = 200, 200000
+
+
+def arguments():
+    parser = argparse.ArgumentParser()
+    parser.add_argument('--seed', type=int, default=sessions.SEED)
+    parser.add_argument('--sessions', type=int, default=sessions.SESSIONS)
+    parser.add_argument('--text', default='/dev/null')
+    parser.add_argument('--expected', default='/dev/null')
+    parser.add_argument('--quiet', action='store_true', help='no count for each branch')
+    return parser.parse_args()
+
+
+def main():
+    args = arguments()
+    began = time.time()
+    reached = dict.fromkeys(mux2.BRANCHES, 0)
+    written = calls = serving = lines = 0
+    with open(args.text, 'w') as text, open(args.expected, 'w') as expected:
+        for author, branches in sessions.fixed_set(args.seed, args.sessions):
+            for order in author.orders:
+                print(*order, file=text)
+            for line in author.printed:
+                print(line, file=expected)
+            for branch, count in branches.items():
+                reached[branch] += count
+            written += 1
+            calls += author.calls
+            serving += author.serving
+            lines += len(author.orders)
+
+    if not args.quiet:
+        for branch, count in reached.items():
+            print(f'{count:9}  {branch}')
+    print(f'{written} sessions, {lines} lines, {calls} calls, {serving} of them inspections or '
+          f'sweeps that serve a port; {time.time() - began:.1f} s')
+
+    faults = [f'never reached: {branch}' for branch, count in reached.items()
+              if count == 0 and branch not in mux2.UNREACHABLE]
+    faults += [f'reached, but cannot be: {branch}'
+               for branch in mux2.UNREACHABLE if reached[branch]]
+    if written < LEAST_SESSIONS or calls < LEAST_CALLS or 2 * serving < calls:
+        faults.append('fewer sessions, calls or services than promised')
+    for fault in faults:
+        print(fault)
+    fixed = (args.seed, args.sessions) == (sessions.SEED, sessions.SESSIONS)
+    sys.exit(1 if faults and fixed else 0)
+
+
+if __name__ == '__main__':
+    main()

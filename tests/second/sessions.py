@@ -1,0 +1,419 @@
+"""Writes sessions from a seed: long runs of calls and host writes that look for trouble.
+
+An author plays each order on the second program as it writes it, so that it
+knows which port comes next, whether a transmitter is busy, where a buffer lies.
+Only `Random.random` is used: its sequence is the same in every Python.
+"""
+
+from random import Random
+
+import mux2
+import play
+
+SEED, SESSIONS = 1974, 220          # the fixed set of the gate
+DIGEST_EVERY = 256                  # printed lines between two whole digests
+
+MANY, HIGH = 4294967295, 4294967040     # the largest number, and a multiple of every 8b below it
+CODES = (0, 13, 31, 32, 65, 123, 124, 125, 127)         # around the special codes
+EDGES = (65533, 65534, 65535, 0, 1)
+
+# How often each action is chosen, by the kind of session.
+USUAL = dict(turn=60, sweep=14, processor=8, host=4, lend_list=2, poke=2, stopped=2,
+             bad_setup=0.4, bad_record=1, bad_memory=1, bad_port=1, bad_sweep=1, reset=0.4)
+KINDS = {
+    'mixed': {},
+    'input': dict(inputs=0.85),
+    'output': dict(inputs=0.15),
+    'overlap': dict(own=0.7, inputs=0.7),
+    'edges': dict(edge=0.6),
+    'echo': dict(inputs=0.8, busy=0.6),
+    'sweeps': dict(sweep=60, turn=30, lend_list=6),
+    'flips': dict(inputs=0.25, flip=0.5),
+    'refusals': dict(bad_setup=4, bad_record=6, bad_memory=6, bad_port=6, bad_sweep=6, stopped=6),
+    'pokes': dict(poke=20),
+    'resets': dict(reset=4, processor=16),
+    'quiet': dict(filled=0, sweep=40, turn=10, bad_sweep=6, lend_list=6),
+}
+TRAITS = dict(inputs=0.5, own=0.15, edge=0.15, busy=0.2, flip=0.12, filled=0.7)
+
+
+class Author:
+    """Writes one session; `orders` and `printed` are its text and what must be printed."""
+
+    def __init__(self, seed, number):
+        self.random = Random(seed * 1000003 + number).random
+        self.kind = list(KINDS)[number % len(KINDS)]
+        settings = {**USUAL, **TRAITS, **KINDS[self.kind]}
+        self.traits = {name: settings[name] for name in TRAITS}
+        self.actions = {name: settings[name] for name in USUAL}
+        self.player = play.Player()
+        self.mux = self.player.mux
+        self.orders, self.printed = [], []
+        self.calls = self.serving = 0
+
+    # Chance.
+
+    def below(self, n):
+        return int(self.random() * n)
+
+    def one_of(self, *choices):
+        return choices[self.below(len(choices))]
+
+    def chance(self, part):
+        return self.random() < part
+
+    def trait(self, name):
+        return self.chance(self.traits[name])
+
+    def weighted(self, weights):
+        at = self.random() * sum(weights.values())
+        for name, weight in weights.items():
+            at -= weight
+            if at < 0:
+                return name
+        return name
+
+    # Orders.
+
+    @property
+    def unit(self):
+        return self.mux.record
+
+    def do(self, *order):
+        before = self.mux.services
+        line = self.player.play(order)
+        self.orders.append(order)
+        if order[0] in play.CALLS:
+            self.calls += 1
+            self.serving += self.mux.services > before
+        if line is not None:
+            self.printed.append(line)
+            if order[0] < play.DIGEST and len(self.printed) % DIGEST_EVERY == 0:
+                self.do(play.DIGEST)
+
+    def block(self, p):
+        return self.unit.base + p * self.unit.block
+
+    def unsound(self):
+        u = self.unit
+        return self.mux.setup_refusal(u.block, u.ports, u.base) != 0 or u.pos >= u.ports
+
+    def look(self, ahead=0):
+        """The block of the port `ahead` turns from now, cut to an address that may be looked at."""
+        u = self.unit
+        address = self.block((u.pos + ahead) % u.ports) if u.ports else u.base
+        return min(address, 32760)
+
+    def inspect(self):
+        self.do(play.INSPECT, self.look())
+
+    def write(self, address, word):
+        self.do(play.WRITE, address, word)
+
+    # Numbers that make trouble.
+
+    def byte(self):
+        return self.one_of(*CODES) + self.one_of(0, 128) if self.chance(0.6) else self.below(256)
+
+    def pointer(self, p):
+        if self.trait('own'):       # the step lands on ICW, IBP, OBP or LIB, or near them
+            return (2 * self.block(p) - 1 + self.one_of(0, 1, 8, 9, 10, 11, 12, 13,
+                                                        self.below(17))) % 65536
+        if self.trait('edge'):
+            return self.one_of(*EDGES)
+        if self.chance(0.1):
+            return (2 * self.block(self.below(self.unit.ports)) - 1 + self.below(17)) % 65536
+        return self.below(65536)
+
+    def end(self, pointer):
+        return (pointer + self.one_of(0, 1, 1, 2, 2, 3, 40, 65535)) % 65536
+
+    def icw(self):
+        mode = self.weighted({0: 2, 1: 1, 2: 4, 3: 5})
+        return (self.chance(0.15) * 32768 + mode * 8192 + self.below(2) * 4096
+                + self.below(16) * 256 + self.byte())
+
+    def ocw(self, p):
+        mode = self.weighted({0: 1, 1: 6, 2: 2, 3: 3})
+        line = self.unit.port[p].line ^ self.chance(0.1)
+        low = self.control() if mode == 2 else self.byte()
+        return (self.chance(0.15) * 32768 + mode * 8192 + self.below(2) * 4096
+                + line * 2048 + self.below(4) * 512 + self.chance(0.2) * 256 + low)
+
+    def control(self):
+        """Eight control bits, most often of length 7 or 8: at 5 every code is special."""
+        length = self.one_of(0, 1, 2, 2, 3, 3, 3)
+        return self.below(4) * 64 + length * 16 + self.below(16)
+
+    # Preparing a port for its turn.
+
+    def set_input(self, p):
+        block = self.block(p)
+        self.write(block, self.icw())
+        if self.chance(0.6):
+            pointer = self.pointer(p)
+            self.write(block + 4, pointer)
+            self.write(block + 6, self.end(pointer))
+
+    def set_output(self, p):
+        block = self.block(p)
+        self.write(block + 1, self.ocw(p))
+        if self.chance(0.6):
+            pointer = self.pointer(p)
+            if self.chance(0.3):
+                self.write((pointer + 1) % 65536 // 2, self.byte() * 256 + self.byte())
+            self.write(block + 5, pointer)
+            self.write(block + 7, self.end(pointer))
+
+    def arrival(self, p):
+        self.do(play.ARRIVAL, p, self.byte(), int(self.chance(0.15)), int(self.chance(0.1)))
+
+    def done(self, p, word):
+        return self.mux.memory.word(self.block(p) + word) >= 32768
+
+    def prepare(self, p):
+        port = self.unit.port[p]
+        if self.trait('inputs'):
+            if self.chance(0.9 if self.done(p, 0) else 0.5):
+                self.set_input(p)
+            if not port.empty and not self.trait('busy'):
+                self.do(play.TRANSMITTED, p)
+            if not port.held or self.chance(0.1):
+                self.arrival(p)
+            while self.chance(0.06):
+                self.arrival(p)
+        else:
+            if self.chance(0.9 if self.done(p, 1) else 0.5):
+                self.set_output(p)
+            if not port.empty:
+                self.do(play.TRANSMITTED, p)
+            if self.trait('flip'):
+                self.do(play.DEVICE_STATUS, p, port.line ^ self.chance(0.8))
+
+    # Actions.
+
+    def turn(self):
+        if self.chance(0.85):
+            self.prepare(self.unit.pos)
+        self.inspect()
+        if self.unit.irq and self.chance(0.1):
+            self.do(play.DIAS)
+
+    def plain_turn(self):
+        """A turn that serves a port with no other call before it."""
+        p = self.unit.pos
+        port = self.unit.port[p]
+        if port.held:
+            self.set_input(p)
+        elif port.empty:
+            self.set_output(p)
+        else:
+            self.do(play.POKE_PORT, p, 5, 1)
+        self.inspect()
+
+    def printing(self, p):
+        """A port in the middle of automatic output, its transmitter empty."""
+        pointer = self.pointer(p)
+        self.write(self.block(p) + 1, 0o20000 + self.unit.port[p].line * 2048 + self.byte())
+        self.write(self.block(p) + 5, pointer)
+        self.write(self.block(p) + 7, (pointer + 2 + self.below(60)) % 65536)
+        self.do(play.POKE_PORT, p, 5, 1)
+
+    def sweep(self):
+        ports = self.unit.ports
+        for ahead in range(min(self.below(8), ports)):
+            p = (self.unit.pos + ahead) % ports
+            if self.chance(0.7):
+                self.printing(p)
+            else:
+                self.prepare(p)
+        lent = self.mux.lent_places
+        n = min(lent, self.one_of(0, 1, 2, 3, ports, 2 * ports, lent, self.below(200)))
+        self.do(play.SWEEP, n, self.look(self.below(4)))
+
+    def processor(self):
+        self.do(self.one_of(play.IOPLS, play.START, play.DOC, play.DIA, play.DIAS, play.TICK,
+                            play.TICK, play.DIAS))
+
+    def reset(self):
+        self.do(play.RESET)
+        if self.chance(0.3):
+            self.any_call()
+        self.go()
+
+    def go(self):
+        if self.chance(0.6):
+            for p in range(min(self.unit.ports, 16)):
+                self.write(self.block(p) + 1, 0o40000 + self.below(2) * 4096 + self.control())
+        self.do(play.DOC)
+        if self.chance(0.5):
+            self.do(play.IOPLS)
+
+    def host(self):
+        u = self.unit
+        if self.chance(0.6):
+            self.write(self.block(self.below(u.ports)) + self.one_of(0, 1, 4, 5, 6, 7),
+                       self.below(65536))
+        else:
+            self.write(self.below(mux2.ROOM), self.below(65536))
+
+    def lend_list(self):
+        long = self.kind == 'quiet' and self.chance(0.3)
+        self.do(play.PLACES, 4096 + self.below(104) if long
+                else self.one_of(0, 1, 2, 3, 8, self.unit.ports, 64, 200), self.below(65536))
+
+    def poke(self):
+        """A record that no call would make, but a sound one."""
+        u = self.unit
+        what = self.below(6)
+        if what == 0:
+            self.do(play.POKE, 3, self.below(u.ports))
+        elif what == 1:
+            self.do(play.POKE, 7, self.below(65536))
+        elif what == 2:
+            self.do(play.POKE, self.one_of(5, 6), self.below(2))
+        elif what == 3:
+            _, ports, base = self.sound_place(u.block)
+            self.do(play.POKE, 1, ports)
+            self.do(play.POKE, 2, base)
+            self.do(play.POKE, 3, self.below(ports))
+        else:
+            p = self.one_of(self.below(mux2.ARRAY), u.pos, u.pos, u.pos)
+            field = self.below(9)
+            self.do(play.POKE_PORT, p, field, self.below(256) if field in (1, 6) else self.below(2))
+
+    def any_call(self):
+        """One call of any kind, with any arguments."""
+        op = 2 + self.below(13)
+        port = self.one_of(0, self.below(128), self.unit.ports, MANY)
+        if op == play.ARRIVAL:
+            self.arrival(port)
+        elif op == play.TRANSMITTED:
+            self.do(op, port)
+        elif op == play.DEVICE_STATUS:
+            self.do(op, port, self.below(2))
+        elif op == play.INSPECT:
+            self.inspect()
+        elif op == play.SWEEP:
+            lent = self.mux.lent_places
+            self.do(op, self.one_of(0, min(lent, 5), lent + 1, 4097, MANY), self.look())
+        else:
+            self.do(op)
+
+    def some_calls(self):
+        for _ in range(1 + self.below(5)):
+            self.any_call()
+
+    def stopped(self):
+        self.do(play.DOB)
+        self.some_calls()
+        self.do(play.DOC)
+
+    def bad_record(self):
+        u = self.unit
+        area = 128 * u.block
+        field, value = self.one_of(
+            (0, self.one_of(0, 7, 9, 24, 64, MANY)), (1, self.one_of(0, 129, MANY)),
+            (2, self.one_of(u.base + 1, u.base + 4 * u.block, 32768, 32768 + u.base, HIGH, MANY)),
+            (2, (u.base // area + 1) * area - 8 * u.block), (1, 128),
+            (3, self.one_of(u.ports, u.ports + 1, 128, MANY)))
+        good = getattr(u, play.FIELDS[field])
+        self.do(play.POKE, field, value)
+        words = self.one_of(32768, 32768, 32767)
+        self.do(play.WORDS, words)
+        if self.unsound():
+            self.some_calls()
+        self.do(play.WORDS, 32768)
+        self.do(play.POKE, field, good)
+        if self.unsound():
+            self.good_setup()
+
+    def bad_memory(self):
+        self.do(play.WORDS, self.one_of(0, 1, 32767, 32769, 40000))
+        lent = self.mux.lent_places
+        self.inspect()
+        self.do(play.SWEEP, self.one_of(0, lent, lent + 1, 4097), self.look())
+        if self.chance(0.3):
+            self.any_call()
+        self.do(play.WORDS, 32768)
+
+    def bad_port(self):
+        port = self.unit.ports + self.one_of(0, 0, 1, 128 - self.unit.ports, 256)
+        port = self.one_of(port, port, MANY)
+        op = self.one_of(play.ARRIVAL, play.TRANSMITTED, play.DEVICE_STATUS)
+        if op == play.ARRIVAL:
+            self.arrival(port)
+        elif op == play.TRANSMITTED:
+            self.do(op, port)
+        else:
+            self.do(op, port, self.below(2))
+
+    def bad_sweep(self):
+        if self.chance(0.2):
+            self.do(play.PLACES, 4097, self.below(65536))
+        lent = self.mux.lent_places
+        self.do(play.SWEEP, self.one_of(4097, MANY, lent + 1, lent + 1), self.look())
+        if lent == 4097:
+            self.do(play.PLACES, self.one_of(4096, 200, 3), self.below(65536))
+
+    def bad_setup(self):
+        b = self.one_of(8, 16, 32, 32, self.one_of(0, 7, 24, 64, MANY))
+        ports = self.one_of(1, 8, 128, self.below(128), self.one_of(0, 129, MANY))
+        base = self.below(2 + 32768 // (8 * max(b % 64, 1))) * 8 * (b % 64)
+        base = self.one_of(base, base, base, min(base + self.one_of(1, b // 2, 4 * b), MANY),
+                           self.one_of(HIGH, MANY))
+        self.do(play.SETUP, b, ports, base, self.below(2))
+        if self.unsound():
+            self.some_calls()
+            self.good_setup()
+        elif not self.unit.runs:
+            self.go()
+
+    # Starting.
+
+    def sound_place(self, b):
+        """Ports and a base that setup accepts."""
+        eight = 8 * b
+        base = self.below(32768 // eight) * eight
+        room = 128 - base // b % 128
+        if self.kind == 'mixed' or self.chance(0.1):
+            base, room = base // (128 * b) * 128 * b, 128
+        elif self.chance(0.2):          # at either end of memory, where pointers start again
+            base, room = self.one_of((0, 128), (32768 - eight, 8))
+        ports = self.one_of(1, 2, 3, 4, min(8, room), 1 + self.below(room), room)
+        return b, ports, base
+
+    def good_setup(self):
+        self.do(play.SETUP, *self.sound_place(self.one_of(8, 16, 32)), self.below(2))
+        for p in range(self.unit.ports):
+            if self.chance(0.8):
+                self.do(play.POKE_PORT, p, 6, self.control())
+        self.go()
+
+    def session(self, calls):
+        if self.trait('filled'):
+            self.do(play.FILL, 1 + self.below(2000000000))
+        self.good_setup()
+        self.do(play.PLACES, 200, self.below(65536))
+        while self.calls < calls:
+            if not self.unit.runs:
+                self.do(play.DOC)
+            elif self.serving < 0.53 * self.calls:
+                self.plain_turn()
+            else:
+                getattr(self, self.weighted(self.actions))()
+        reached = self.mux.reached
+        self.do(play.END)
+        return reached
+
+
+def write_session(seed, number):
+    """One session: its author, with orders, printed lines and counts, and the branches reached."""
+    author = Author(seed, number)
+    reached = author.session(author.one_of(500, 900, 900, 1300))
+    return author, reached
+
+
+def fixed_set(seed=SEED, sessions=SESSIONS):
+    for number in range(sessions):
+        yield write_session(seed, number)

@@ -1,0 +1,346 @@
+"""Checks the second program by document 01's settled examples and the manual's own values.
+
+It also checks that the digests are those of FORMAT.md, that a written session
+can be read and played again, and that compare.py finds a changed line. Exit
+status 0 only where every check passes.
+"""
+
+import sys
+import traceback
+
+import compare
+import mux2
+import play
+import sessions
+from mux2 import IDLE, INPUT, NOTHING, OUTPUT, Answer, Mux2
+
+
+def unit(b=8, ports=8, base=64, control=0o60):
+    """A running unit whose ports have length 8, with parity checked, unless told otherwise."""
+    mux = Mux2()
+    code, mux.record = mux.setup(b, ports, base)
+    assert code == 0
+    for p in range(ports):
+        mux.change(p, control=mux2.BYTE_BITS[control])
+    mux.doc()
+    return mux
+
+
+def setup_code(b, ports, base):
+    return Mux2().setup(b, ports, base)[0]
+
+
+def give(mux, p, byte, parity=0, brk=0):
+    assert mux.arrival(p, byte, parity, brk) == 0
+    return mux.inspect()[1]
+
+
+def block(mux, **words):
+    """Puts words into port 0's control block, and reads ICW, OCW, IBP and OBP back."""
+    for name, word in words.items():
+        mux.host_write(mux.record.base + 'icw ocw - - ibp obp lib lob'.split().index(name), word)
+    return [mux.memory.word(mux.record.base + place) for place in (0, 1, 4, 5)]
+
+
+# Document 01.
+
+def test_setup_examples():
+    assert setup_code(32, 120, 256) == 0 and setup_code(32, 121, 256) == 4
+    assert setup_code(8, 8, 64) == 0 and setup_code(8, 8, 32) == 3
+    assert setup_code(32, 32, 15360) == 0 and setup_code(32, 33, 15360) == 4
+    assert setup_code(7, 0, 0) == 1
+
+
+def test_refusal_5_is_never_given():
+    mux = Mux2()
+    assert all(mux.setup_refusal(b, ports, base) != 5 for b in (8, 16, 32)
+               for ports in range(1, 129) for base in range(0, 32768, 8 * b))
+
+
+def test_refused_setup_gives_zeros():
+    code, made = Mux2().setup(8, 0, 64)
+    assert code == 2 and vars(made) == vars(mux2.Record())
+    assert made.port == [mux2.ZERO_PORT] * 128
+
+
+def test_special_codes():
+    mux = Mux2()
+    for low in range(128):
+        for top in (0, 128):
+            wanted = low < 32 or low > 123
+            assert mux.special(mux2.BYTE_BITS[low + top]) == wanted
+
+
+def test_three_bytes_into_a_buffer():
+    mux = unit(ports=1)
+    block(mux, icw=0o40000, ibp=2000, lib=2003)
+    assert [give(mux, 0, byte).raised for byte in (65, 66, 67)] == [0, 0, 1]
+    assert mux.memory.word(1000) == 65 and mux.memory.word(1001) == 66 * 256 + 67
+    assert block(mux)[::2] == [0o140000 + 67, 2003]
+
+
+def test_pointer_past_the_end():
+    mux = unit(ports=1)
+    mux.host_write(0, 0x1234)
+    block(mux, icw=0o40000, ibp=65535, lib=9)
+    give(mux, 0, 0xab)
+    assert mux.memory.word(0) == 0xab34 and block(mux)[2] == 0
+
+
+def test_status_words():
+    mux = unit(32, 32, 15360)
+    give(mux, 0, 65)
+    assert mux.dia() == (0, 11264)
+    mux.host_write(15360 + 32 + 1, 0o60101)
+    assert mux.inspect() == (0, Answer(OUTPUT, 1, 1, 0o101, 1))
+    assert mux.record.irq == 1 and mux.dias() == (0, 31776) and mux.dia() == (0, 0)
+    mux.iopls()
+    mux.tick()
+    assert mux.dia() == (0, 32768)
+
+
+def test_turn_of_a_waiting_character():
+    mux = unit(ports=4)
+    mux.inspect()
+    mux.arrival(0, 65, 0, 0)
+    assert [mux.inspect()[1].turn for _ in range(4)].index(INPUT) == 3
+    mux.arrival(0, 65, 0, 0)
+    mux.record.pos = 0
+    assert mux.inspect()[1].turn == INPUT
+
+
+def test_sweep_lengths():
+    mux = unit()
+    mux.lent_places = 4200
+    assert mux.sweep(0) == (0, 0, 0)
+    assert mux.sweep(4096) == (0, 4096, 0)
+    assert mux.sweep(4097) == (9, 0, 0)
+    mux.lent_places = 7
+    assert mux.sweep(8) == (10, 0, 0) and mux.sweep(4097) == (9, 0, 0)
+    mux.dob()
+    assert mux.sweep(7) == (0, 0, 0) and mux.sweep(8) == (10, 0, 0)
+
+
+def test_sweep_lists_bytes_and_stops():
+    mux = unit(ports=4)
+    mux.places, mux.lent_places = [9] * 10, 10
+    for p, ocw in enumerate((0o20000, 0, 0o60102, 0o60103)):
+        mux.host_write(mux.block_of(p) + 1, ocw)
+    mux.host_write(0, 0o101)                            # port 0's OBP is 0: the right half is next
+    assert mux.sweep(10) == (0, 3, 2)
+    assert mux.places == [0o101, 2 * 256 + 0o102] + [9] * 8
+    assert mux.record.pos == 3
+
+
+def test_speeds():
+    assert mux2.SPEEDS == (110, 150, 300, 600, 1200, 2400, 4800, 9600)
+
+
+# Errors that document 01 has seen.
+
+def test_vertical_bar_is_reported_and_not_stored():
+    mux = unit(ports=1)
+    block(mux, icw=0o70000, ibp=2000, lib=2009)
+    assert give(mux, 0, 0o174) == Answer(INPUT, 0, 0, 0, 1)
+    assert block(mux)[::2] == [0o170374, 2000] and mux.memory.word(1000) == 0
+
+
+def test_no_port_starves():
+    mux = unit(ports=4)
+    for p in range(4):
+        mux.arrival(p, 65, 0, 0)
+    served = []
+    for _ in range(4):
+        served.append(mux.inspect()[1].port)
+        mux.arrival(0, 66, 0, 0)
+    assert served == [0, 1, 2, 3]
+
+
+def test_pointer_written_before_the_byte():
+    mux = unit(ports=1)
+    place = 2 * (64 + 4)                                # IBP's own left half
+    block(mux, icw=0o40000, ibp=place - 1, lib=0)
+    give(mux, 0, 0xee)
+    assert block(mux)[2] == 0xee00 + place % 256
+
+
+def test_replacement_is_marked():
+    mux = unit(ports=1)
+    for byte, brk, mark in ((1, 1, 0), (2, 0, 1), (3, 0, 1)):
+        mux.arrival(0, byte, 0, brk)
+        port = mux.record.port[0]
+        assert (port.byte, port.brk, port.overload) == (byte, brk, mark)
+    mux.inspect()
+    assert block(mux)[0] == 0o100000 + 0o4000 + 3       # code 10, overload
+
+
+# The decisions on open points.
+
+def test_indone_already_set():
+    mux = unit(ports=1)
+    block(mux, icw=0o173000)                            # 7-bit ASCII, bits 5 and 6 as left
+    assert give(mux, 0, 0o101, brk=1) == Answer(INPUT, 0, 0, 0, 0)
+    assert block(mux)[0] == 0o177701 and mux.record.irq == 0
+
+
+def test_mode_01_drops():
+    mux = unit(ports=1)
+    block(mux, icw=0o20000, ibp=5)
+    assert give(mux, 0, 65) == Answer(INPUT, 0, 0, 0, 0)
+    assert block(mux) == [0o20000, 0, 5, 0] and mux.record.port[0].held == 0
+
+
+def test_echo():
+    mux = unit(ports=1)
+    block(mux, icw=0o70000, ibp=1999, lib=2001)
+    assert give(mux, 0, 0o101) == Answer(INPUT, 0, 1, 0o101, 0)
+    assert mux.memory.word(1000) == 0o301 * 256 and mux.record.port[0].empty == 0
+    assert mux.inspect()[1] == Answer(IDLE, 0, 0, 0, 0)
+    assert give(mux, 0, 0o102) == Answer(INPUT, 0, 0, 0, 1)
+    assert block(mux)[0] == 0o170000 + 0o1000 + 0o302   # bit 6: not echoed
+
+
+def test_parity_only_where_it_is_checked():
+    for control, icw in ((0o60, 0o102101), (0o260, 0o100101)):
+        mux = unit(ports=1, control=control)
+        give(mux, 0, 0o101, parity=1)
+        assert block(mux)[0] == icw
+
+
+def test_stopped_and_refused_answers():
+    mux = unit()
+    mux.dob()
+    assert mux.inspect() == (0, Answer(NOTHING, 0, 0, 0, 0))
+    mux.memory.lent = 32767
+    assert mux.inspect() == (7, Answer(NOTHING, 0, 0, 0, 0)) and mux.sweep(0) == (7, 0, 0)
+    assert mux.arrival(8, 0, 0, 0) == 8
+    mux.record.pos, mux.record.status = 8, 5
+    assert mux.inspect()[0] == 6 and mux.arrival(8, 0, 0, 0) == 6
+    assert mux.dias() == (6, 0) and mux.record.status == 5
+
+
+def test_reset_keeps_lines_and_other_control_bits():
+    mux = unit(control=0o377)
+    mux.device_status(3, 1)
+    mux.arrival(3, 65, 1, 1)
+    mux.change(127, empty=0, level=0, control=mux2.BYTE_BITS[0o17])
+    mux.reset()
+    kept = mux2.FRESH_PORT._replace
+    assert mux.record.port[3] == kept(control=mux2.BYTE_BITS[0o370], line=1)
+    assert mux.record.port[127] == kept(control=mux2.BYTE_BITS[0o10])
+    assert mux.record.runs == 0
+
+
+# The manual.
+
+def test_section_6_port_control_word():
+    mux = unit(ports=1, control=0)
+    mux.change(0, level=0)
+    block(mux, ocw=0o50360)
+    assert mux.inspect()[1] == Answer(OUTPUT, 0, 0, 0, 1)
+    port = mux.record.port[0]
+    assert block(mux)[1] == 0o150360 and port.level == 1 and port.empty == 1
+    assert port.control == (1, 1, 1, 1, 0, 0, 0, 0)     # no parity, two stops, 8 bits, 110 baud
+
+
+def test_appendix_b_with_the_line_down():
+    mux = unit(ports=1, control=0)
+    block(mux, ocw=0o40000)
+    for _ in range(3):
+        mux.inspect()
+        assert block(mux)[:2] == [0, 0o140000]
+
+
+def test_appendix_b_with_the_line_up():
+    mux = unit(ports=1, control=0)
+    mux.device_status(0, 1)
+    block(mux, ocw=0o40000)
+    assert mux.inspect()[1].raised == 1 and block(mux)[1] == 0o144400
+    for _ in range(2):
+        assert mux.inspect()[1].raised == 0 and block(mux)[1] == 0o146400
+
+
+def test_appendix_b_all_ones():
+    mux = unit(ports=1)
+    give(mux, 0, 0o377)
+    assert give(mux, 0, 0o377).raised == 0 and block(mux)[0] == 0o100777
+
+
+def test_section_7_special_output():
+    mux = unit(ports=1)
+    mux.host_write(1000, 0o101 * 256 + 0o215)           # a letter, then return with its top bit
+    block(mux, ocw=0o30240, obp=1999, lob=2009)
+    assert mux.inspect()[1] == Answer(OUTPUT, 0, 1, 0o101, 0)
+    mux.transmitted(0)
+    assert mux.inspect()[1] == Answer(OUTPUT, 0, 1, 0o215, 1)
+    assert block(mux)[1::2] == [0o130240, 2001]
+
+
+# The text of a session.
+
+def test_digests_are_those_of_the_format():
+    author, _ = sessions.write_session(7, 0)
+    player = play.Player()
+    for order in author.orders[:-1]:
+        player.play(order)
+        if order[0] == play.DIGEST:
+            mux = player.mux
+            u, memory = mux.record, mux.memory
+            numbers = [getattr(u, field) for field in play.FIELDS]
+            for port in u.port:
+                numbers += [*port[:6], mux2.BYTE_OF[port.control], *port[7:]]
+            assert len(numbers) == 1160 and player.record() == play.digest(numbers)
+            assert memory.digest() == play.digest(map(memory.word, range(mux2.ROOM)))
+
+
+def test_filled_memory():
+    player, x = play.Player(), 77
+    player.play((play.FILL, x))
+    for address in range(mux2.ROOM):
+        x = x * 48271 % 2147483647
+        assert player.mux.memory.word(address) == x // 16 % 65536
+
+
+def test_orders_keep_the_format():
+    word, number, port_field = 65535, 4294967295, [1, 255, 1, 1, 1, 1, 255, 1, 1]
+    field = [number] * 4 + [1, 1, 1, word]
+    most = {1: (number, number, number, 1), 2: (number, 255, 1, 1), 3: (number,), 4: (number, 1),
+            13: (32760,), 14: (number, 32760), 20: (39999, word), 21: (2147483646,), 22: (40000,),
+            23: (4200, word), 24: (7, number), 25: (127, 8, 255)}
+    for number_of_session in range(len(sessions.KINDS)):
+        for op, *rest in sessions.write_session(7, number_of_session)[0].orders:
+            limits = most.get(op, ())
+            assert op in play.NAMES and len(rest) == len(limits)
+            assert all(type(x) is int and 0 <= x <= limit for x, limit in zip(rest, limits))
+            assert op != play.POKE or rest[1] <= field[rest[0]]
+            assert op != play.POKE_PORT or rest[2] <= port_field[rest[1]]
+
+
+def test_a_text_can_be_played_again():
+    author, _ = sessions.write_session(7, 1)
+    player = play.Player()
+    text = [' '.join(map(str, order)) for order in author.orders]
+    again = [player.play([int(word) for word in line.split()]) for line in text]
+    assert [line for line in again if line is not None] == author.printed
+    assert compare.first_difference(text, author.printed, author.printed) is None
+    for wrong in (author.printed[:-1], author.printed + ['0'],
+                  author.printed[:50] + ['0'] + author.printed[51:]):
+        assert compare.first_difference(text, author.printed, wrong)
+
+
+def main():
+    tests = {name: test for name, test in globals().items() if name.startswith('test_')}
+    failed = 0
+    for name, test in tests.items():
+        try:
+            test()
+        except Exception:
+            failed += 1
+            print(f'{name} fails')
+            traceback.print_exc()
+    print(f'{len(tests) - failed} checks hold, {failed} fail')
+    sys.exit(1 if failed else 0)
+
+
+if __name__ == '__main__':
+    main()
