@@ -1,7 +1,8 @@
 """A second EDS-8, for comparison with the proved one.
 
-Written from document 01 and the 1974 manual (001) alone. It takes another road
-than the proved program: a word is a list of sixteen 0s and 1s indexed by the
+Written from document 01, the 1974 manual (001) and the readings of
+docs/DECISIONS.md, without sight of the definitions or the code. It takes
+another road than the proved program: a word is a list of sixteen 0s and 1s indexed by the
 manual's bit numbers, a port is an immutable object, and memory is a bytearray
 in which a byte pointer is simply an index. Each branch of document 01 has a
 name, and `reached` counts how often it was taken.
