@@ -1,23 +1,16 @@
--- Choosing: between two values by a test; a value that may be absent; the first row of a table that applies.
+-- Choosing: between two values by a test; a value that may be absent; the first row of a table that applies; a number with its bound.
+-- Not here: what follows, in laws/Rows.
 -- Assumes nothing.
 use mathlib.Core.Path.{_≡_}
 use mathlib.Core.Bool.{Bool, true, false}
 use mathlib.Core.List.{List, [], _∷_}
 use mathlib.Core.Option.{Option, some, none}
-use Prim.Native.Nat.{ℕ}
+use Prim.Native.Nat.{ℕ, _<_}
 
 -- the first value where the test is true, and the second where it is false
 unfoldable pub pick : {A : Type 0} → Bool → A → A → A
 pick true a b = a
 pick false a b = b
-
-pub pick-true : {A : Type 0} (t : Bool) (a b : A) → t ≡ true → pick t a b ≡ a
-unfolding pick
-pick-true t a b e = rw e
-
-pub pick-false : {A : Type 0} (t : Bool) (a b : A) → t ≡ false → pick t a b ≡ b
-unfolding pick
-pick-false t a b e = rw e
 
 -- a bit of a word: 1 for true, 0 for false
 unfoldable pub bit : Bool → ℕ
@@ -41,3 +34,8 @@ row k t = record { number = k; applies = t }
 unfoldable pub firstOf : List Row → ℕ
 firstOf [] = 0
 firstOf (r ∷ rs) = pick (r .applies) (r .number) (firstOf rs)
+
+-- r is the number x, and below n: what a contract says of a result that has a bound
+pub record Below (n x r : ℕ) : Type 0 where
+  pub is : r ≡ x
+  pub below : r < n

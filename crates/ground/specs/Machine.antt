@@ -1,17 +1,13 @@
 -- Any machine: states, acts, and a step from a state by an act to the next state.
 --   run, total, tally    the state after a list of acts; the sum of a number for each act; how many acts pass a test on the state they meet
---   run-append ..        the laws of a list that is two lists
---   total-same           numbers that agree at every act have one sum
---   total-le             what is spent, with what is left, is at most what is given, with what there was: if so for each act, then over the run
 --   Throughout, Until    what holds of every state met; an act of the list, up to which it holds
 --   Every                what holds of every act where it is met
---   never .. until-map   a test that nothing passes; weaker readings of what holds on the way
+-- Not here: what follows, in laws/Machine.
 -- Assumes nothing.
-use mathlib.Core.Path.{_≡_, refl, ap}
-use mathlib.Core.Bool.{Bool, false}
+use mathlib.Core.Path.{_≡_}
+use mathlib.Core.Bool.{Bool}
 use mathlib.Core.List.{List, [], _∷_, _++_}
-use Prim.Native.Nat.{ℕ, _+_, _≤_}
-use native.Mathlib.Omega.{arith}
+use Prim.Native.Nat.{ℕ, _+_}
 use Rattle.ground.specs.Choose.{bit}
 
 module _ {S A : Type 0} (step : S → A → S) where
@@ -46,71 +42,3 @@ module _ {S A : Type 0} (step : S → A → S) where
     pub later : List A
     pub whole : xs ≡ before ++ (here ∷ later)
     pub meanwhile : Throughout C s before
-
-  -- ---- a list that is two lists
-
-  pub run-append : (s : S) (xs ys : List A) → run s (xs ++ ys) ≡ run (run s xs) ys
-  unfolding run
-  run-append s [] ys = refl
-  run-append s (a ∷ xs) ys = run-append (step s a) xs ys
-
-  pub total-append : (f : S → A → ℕ) (s : S) (xs ys : List A) → total f s (xs ++ ys) ≡ total f s xs + total f (run s xs) ys
-  unfolding run total
-  total-append f s [] ys = omega arith
-  total-append f s (a ∷ xs) ys = omega (arith, total-append f (step s a) xs ys)
-
-  -- ---- sums over a run
-
-  -- what is spent, with what is left, is at most what is given, with what there was
-  pub total-le : (spent given : S → A → ℕ) (left : S → ℕ) → ((s : S) (a : A) → spent s a + left (step s a) ≤ given s a + left s) → (s : S) (xs : List A) → total spent s xs + left (run s xs) ≤ total given s xs + left s
-  unfolding run total
-  total-le spent given left each s [] = omega arith
-  total-le spent given left each s (a ∷ xs) = omega (arith, each s a, total-le spent given left each (step s a) xs)
-
-  -- the same as an equation
-  pub total-eq : (spent given : S → A → ℕ) (left : S → ℕ) → ((s : S) (a : A) → spent s a + left (step s a) ≡ given s a + left s) → (s : S) (xs : List A) → total spent s xs + left (run s xs) ≡ total given s xs + left s
-  unfolding run total
-  total-eq spent given left each s [] = omega arith
-  total-eq spent given left each s (a ∷ xs) = omega (arith, each s a, total-eq spent given left each (step s a) xs)
-
-  -- two numbers that agree at every act have one sum
-  pub total-same : (f g : S → A → ℕ) → ((s : S) (a : A) → f s a ≡ g s a) → (s : S) (xs : List A) → total f s xs ≡ total g s xs
-  unfolding total
-  total-same f g each s [] = refl
-  total-same f g each s (a ∷ xs) = omega (arith, each s a, total-same f g each (step s a) xs)
-
-  -- ---- an act of a list
-
-  -- the list up to an act has at most the sum of the whole list, and that act's own number besides
-  pub until-le : (f : S → A → ℕ) (C : S → Type 0) (s : S) (xs : List A) (u : Until C s xs) → total f s (u .before) + f (run s (u .before)) (u .here) ≤ total f s xs
-  unfolding total
-  until-le f C s xs u =
-      omega (arith, ap (λ l. total f s l) (u .whole), total-append f s (u .before) (u .here ∷ u .later))
-
-  -- a test that nothing passes
-  pub never : (s : S) (xs : List A) → tally (λ r a. false) s xs ≡ 0
-  unfolding total bit
-  never s [] = refl
-  never s (a ∷ xs) = omega (arith, never (step s a) xs)
-
-  -- what holds of every state met, read as something weaker
-  pub throughout-map : (C D : S → Type 0) → ((s : S) → C s → D s) → (s : S) (xs : List A) → Throughout C s xs → Throughout D s xs
-  throughout-map C D f s [] c = f s c
-  throughout-map C D f s (a ∷ xs) c = (f s (c .0), throughout-map C D f (step s a) xs (c .1))
-
-  -- and of every state met before an act
-  abbrev pub until-map : (C D : S → Type 0) → ((s : S) → C s → D s) → (s : S) (xs : List A) → Until C s xs → Until D s xs
-  until-map C D f s xs u =
-      record {
-        before = u .before;
-        here = u .here;
-        later = u .later;
-        whole = u .whole;
-        meanwhile = throughout-map C D f s (u .before) (u .meanwhile);
-      }
-
-  -- what holds of every state met holds of the last one
-  pub throughout-last : (C : S → Type 0) (s : S) (xs : List A) → Throughout C s xs → C (run s xs)
-  unfolding run
-  throughout-last C s [] c = c
-  throughout-last C s (a ∷ xs) c = throughout-last C (step s a) xs (c .1)

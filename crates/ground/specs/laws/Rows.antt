@@ -1,0 +1,119 @@
+-- Laws of choosing, of tests, and of the first row of a table that applies.
+--   pick-true, pick-false what is chosen
+--   or-false, or-true     what an `or` of tests says of its two tests
+--   Gives, first-gives    a table gives a number: the rows before it do not apply, and its own does; 0 where no row applies
+--   Passed, first-zero    a table of numbers other than 0 gives 0 exactly where no row of it applies
+--   first-then, first-stops   a table that is two tables, one after the other
+-- Assumes nothing.
+use mathlib.Core.Path.{_≡_, refl, sym, _∙_}
+use mathlib.Core.Bool.{Bool, true, false, _&&_, _||_}
+use mathlib.Core.List.{List, [], _∷_, _++_}
+use mathlib.Core.Logic.{_↔_, _⊎_, inl, inr}
+use Prim.Native.Nat.{ℕ, _<_}
+use native.Mathlib.Omega.{arith}
+use lib.Dec.{ltb}
+use borrow.Author.Tests.{ltb-true}
+use Rattle.ground.specs.Choose.{pick, Row, firstOf}
+
+pub pick-true : {A : Type 0} (t : Bool) (a b : A) → t ≡ true → pick t a b ≡ a
+unfolding pick
+pick-true t a b e = rw e
+
+pub pick-false : {A : Type 0} (t : Bool) (a b : A) → t ≡ false → pick t a b ≡ b
+unfolding pick
+pick-false t a b e = rw e
+
+-- where an `or` is false both tests are
+pub or-false : (a b : Bool) → (a || b) ≡ false → (a ≡ false) × (b ≡ false)
+or-false true b e = (cc, cc)
+or-false false b e = (refl, e)
+
+-- where an `or` is true one of its tests is
+pub or-true : (a b : Bool) → (a || b) ≡ true → (a ≡ true) ⊎ (b ≡ true)
+or-true true b e = inl refl
+or-true false b e = inr e
+
+-- where both tests are false their `or` is
+pub both-false : (a b : Bool) → a ≡ false → b ≡ false → (a || b) ≡ false
+both-false a b p q = cc
+
+-- a table gives k: some row applies, says k, and none before it applies; or no row applies and k is 0
+abbrev pub Gives : List Row → ℕ → Type 0
+Gives [] k = k ≡ 0
+Gives (r ∷ rs) k = ((r .applies ≡ true) × (k ≡ r .number)) ⊎ ((r .applies ≡ false) × Gives rs k)
+
+to : (rs : List Row) (k : ℕ) → firstOf rs ≡ k → Gives rs k
+unfolding firstOf pick
+to [] k e = sym e
+to (r ∷ rs) k e = go (r .applies) refl (to rs)
+  where
+    go : (t : Bool) → r .applies ≡ t → ((n : ℕ) → firstOf rs ≡ n → Gives rs n) → Gives (r ∷ rs) k
+    go true a more = inl (a, sym e ∙ rw a)
+    go false a more = inr (a, more k (sym (rw a) ∙ e))
+
+from : (rs : List Row) (k : ℕ) → Gives rs k → firstOf rs ≡ k
+unfolding firstOf pick
+from [] k e = sym e
+from (r ∷ rs) k (inl h) = rw (h .0) (sym (h .1))
+from (r ∷ rs) k (inr h) = rw (h .0) (from rs k (h .1))
+
+-- the number of the first row that applies is what the table gives, and the only one
+pub first-gives : (rs : List Row) (k : ℕ) → (firstOf rs ≡ k) ↔ Gives rs k
+first-gives rs k = (to rs k, from rs k)
+
+-- ---- a table that gives 0
+
+-- every number of the table is other than 0: computed, whatever the tests are
+abbrev pub numbered : List Row → Bool
+numbered [] = true
+numbered (r ∷ rs) = ltb 0 (r .number) && numbered rs
+
+-- no row of the table applies
+abbrev pub Passed : List Row → Type 0
+Passed [] = Unit {0}
+Passed (r ∷ rs) = (r .applies ≡ false) × Passed rs
+
+and-true : (a b : Bool) → (a && b) ≡ true → (a ≡ true) × (b ≡ true)
+and-true true b e = (refl, e)
+and-true false b e = (e, cc)
+
+passed : (rs : List Row) → numbered rs ≡ true → firstOf rs ≡ 0 → Passed rs
+unfolding firstOf pick
+passed [] n e = tt
+passed (r ∷ rs) n e = go (r .applies) refl (passed rs)
+  where
+    go : (t : Bool) → r .applies ≡ t → (numbered rs ≡ true → firstOf rs ≡ 0 → Passed rs) → Passed (r ∷ rs)
+    go true a more =
+        let z : r .number ≡ 0 = sym (rw a) ∙ e in
+        absurd (omega (arith, z, ltb-true 0 (r .number) (and-true (ltb 0 (r .number)) (numbered rs) n .0)))
+    go false a more = (a, more (and-true (ltb 0 (r .number)) (numbered rs) n .1) (sym (rw a) ∙ e))
+
+zero : (rs : List Row) → Passed rs → firstOf rs ≡ 0
+unfolding firstOf pick
+zero [] p = refl
+zero (r ∷ rs) p = rw (p .0) (zero rs (p .1))
+
+-- a table gives 0 exactly where no row applies
+pub first-zero : (rs : List Row) → numbered rs ≡ true → (firstOf rs ≡ 0) ↔ Passed rs
+first-zero rs n = (passed rs n, zero rs)
+
+-- ---- a table that is two tables
+
+-- where no row of the first applies, the second decides
+pub first-then : (rs ss : List Row) → numbered rs ≡ true → firstOf rs ≡ 0 → firstOf (rs ++ ss) ≡ firstOf ss
+unfolding firstOf pick
+first-then rs ss n e = go rs (first-zero rs n .0 e)
+  where
+    go : (qs : List Row) → Passed qs → firstOf (qs ++ ss) ≡ firstOf ss
+    go [] p = refl
+    go (q ∷ qs) p = rw (p .0) (go qs (p .1))
+
+-- where a row of the first applies, the first decides
+pub first-stops : (rs ss : List Row) → (firstOf rs ≡ 0 → ⊥) → firstOf (rs ++ ss) ≡ firstOf rs
+unfolding firstOf pick
+first-stops [] ss h = absurd (h refl)
+first-stops (r ∷ rs) ss h = go (r .applies) refl (first-stops rs ss)
+  where
+    go : (t : Bool) → r .applies ≡ t → ((firstOf rs ≡ 0 → ⊥) → firstOf (rs ++ ss) ≡ firstOf rs) → pick (r .applies) (r .number) (firstOf (rs ++ ss)) ≡ pick (r .applies) (r .number) (firstOf rs)
+    go true a more = rw a
+    go false a more = rw a (more (λ e. h (rw a e)))
