@@ -2,30 +2,30 @@
 -- Bits are numbered from the top: bit 0 has weight 32768, bit 15 weight 1.
 --
 -- ICW, word 0 of a block (001, 4.1)
---     0       1   2     3       4   5      6         7       8 . . . . . 15
---   +-------+-------+-------+---------+----------+------+-----------------+
---   |INDONE | INMO  | SEVEN |  FLAGS  | UNECHOED | LATE |    CHARACTER    |
---   +-------+-------+-------+---------+----------+------+-----------------+
--- OCW, word 1 of a block (001, 4.2)
---     0       1   2     3         4        5         6         7        8 . . . . . 15
---   +--------+-------+---------+--------+----------+--------+---------+-----------------+
---   |OUTDONE | OUTMO | REQUEST | STATUS | PREVIOUS | UNUSED | CHANGED |    CHARACTER    |
---   +--------+-------+---------+--------+----------+--------+---------+-----------------+
+--       0       1   2     3      4   5        6               7           8 . . . . . 15
+--   +--------+-------+-------+--------+------------+------------------+-----------------+
+--   | INDONE | INMO  | ASCII | FLAGS  | NOT-ECHOED | SERVICE-OVERLOAD |    CHARACTER    |
+--   +--------+-------+-------+--------+------------+------------------+-----------------+
+-- OCW, word 1 of a block (001, 4.2); bit 3 is SPECIAL-REQUEST in automatic output and DEVICE-CONTROL in port control
+--       0       1   2          3               4                5            6            7          8 . . . . . 15
+--   +---------+-------+-----------------+---------------+-----------------+--------+----------------+-----------------+
+--   | OUTDONE | OUTMO | SPECIAL-REQUEST | DEVICE-STATUS | PREVIOUS-STATUS | UNUSED | STATUS-CHANGED |    CHARACTER    |
+--   +---------+-------+-----------------+---------------+-----------------+--------+----------------+-----------------+
 -- the control bits, bits 8 to 15 of an OCW for port control (001, 4.2)
---      8         9      10  11     12       13  14  15
---   +---------+-------+--------+---------+--------------+
---   | INHIBIT | STOPS | LENGTH |  EVEN   |    SPEED     |
---   +---------+-------+--------+---------+--------------+
+--           8              9         10  11       12         13  14  15
+--   +----------------+------------+----------+-------------+--------------+
+--   | PARITY-INHIBIT | STOP-BAUDS |  LENGTH  | EVEN-PARITY |    SPEED     |
+--   +----------------+------------+----------+-------------+--------------+
 -- the status word (001, 4.7)
---     0      1      2       3       4 . . . 10    11 . . 15
---   +------+------+-------+--------+-----------+-----------+
---   | TICK | MANY | INPUT | OUTPUT |  ADDRESS  |   BELOW   |
---   +------+------+-------+--------+-----------+-----------+
+--         0             1             2            3         4 . . . . 10     11 . . . . 15
+--   +-----------+---------------+------------+-------------+--------------+---------------+
+--   | REAL-TIME | MORE-THAN-ONE | INPUT-DONE | OUTPUT-DONE | PORT-ADDRESS | STATUS-UNUSED |
+--   +-----------+---------------+------------+-------------+--------------+---------------+
 -- Words 4, 5, 6 and 7 of a block are IBP, OBP, LIB and LOB, whole byte addresses (001, 4.3 to 4.6).
+-- Not here: that these are bytes, in laws/Codes.
 -- Assumes nothing.
-use mathlib.Core.Bool.{Bool, true, false}
-use Prim.Native.Nat.{ℕ, _+_, _%_, _<_}
-use native.Mathlib.Omega.{arith}
+use mathlib.Core.Bool.{Bool}
+use Prim.Native.Nat.{ℕ, _+_, _%_}
 use Rattle.ground.specs.Choose.{pick}
 use Rattle.words.specs.declared.field.Field.{Field}
 use Rattle.words.specs.Field.{bits}
@@ -74,8 +74,8 @@ abbrev pub inEcho : ℕ
 inEcho = 3
 
 -- bit 3: 7-bit ASCII mode (4.1 bit 3)
-abbrev pub SEVEN : Field
-SEVEN = bits 3 3
+abbrev pub ASCII : Field
+ASCII = bits 3 3
 
 -- bits 4 and 5: the receiver flags, which are document 01's error code (4.1 bits 4 and 5)
 abbrev pub FLAGS : Field
@@ -94,12 +94,12 @@ abbrev pub flagBreak : ℕ
 flagBreak = 3
 
 -- bit 6: the echo mark, "Not Echoed" (4.1 bit 6)
-abbrev pub UNECHOED : Field
-UNECHOED = bits 6 6
+abbrev pub NOT-ECHOED : Field
+NOT-ECHOED = bits 6 6
 
 -- bit 7: "Mux Service Overload": a character came while INDONE was still set (4.1 bit 7)
-abbrev pub LATE : Field
-LATE = bits 7 7
+abbrev pub SERVICE-OVERLOAD : Field
+SERVICE-OVERLOAD = bits 7 7
 
 -- bits 8 to 15, of ICW and of OCW alike (4.1, 4.2)
 abbrev pub CHARACTER : Field
@@ -119,11 +119,11 @@ unfoldable pub echoedByte : Bool → ℕ → ℕ
 echoedByte seven c = c
 
 -- bit 6 where an error prevents the echo, and where a special code does: 001 is silent, so it is 0
-abbrev pub unechoedByError : ℕ
-unechoedByError = 0
+abbrev pub notEchoedByError : ℕ
+notEchoedByError = 0
 
-abbrev pub unechoedBySpecial : ℕ
-unechoedBySpecial = 0
+abbrev pub notEchoedBySpecial : ℕ
+notEchoedBySpecial = 0
 
 -- ---- OCW
 
@@ -147,43 +147,47 @@ outControl = 2
 abbrev pub outSingle : ℕ
 outSingle = 3
 
--- bit 3: the special interrupt request of automatic output, the Device Control level of port control (4.2 bit 3)
-abbrev pub REQUEST : Field
-REQUEST = bits 3 3
+-- bit 3 in automatic output: the special interrupt request (4.2 bit 3, OUTMO 01)
+abbrev pub SPECIAL-REQUEST : Field
+SPECIAL-REQUEST = bits 3 3
+
+-- bit 3 in port control: the Device Control level (4.2 bit 3, OUTMO 10)
+abbrev pub DEVICE-CONTROL : Field
+DEVICE-CONTROL = bits 3 3
 
 -- bit 4: the Device Status line, written at each output service (4.2 bit 4)
-abbrev pub STATUS : Field
-STATUS = bits 4 4
+abbrev pub DEVICE-STATUS : Field
+DEVICE-STATUS = bits 4 4
 
 -- bit 5: bit 4 as it was read (4.2 bit 5)
-abbrev pub PREVIOUS : Field
-PREVIOUS = bits 5 5
+abbrev pub PREVIOUS-STATUS : Field
+PREVIOUS-STATUS = bits 5 5
 
 -- bit 6: unused, 0 (4.2 bit 6)
 abbrev pub UNUSED : Field
 UNUSED = bits 6 6
 
 -- bit 7: Device Status changed: set where the line differs from bit 4 as read, and never cleared (4.2 bit 7; appendix B)
-abbrev pub CHANGED : Field
-CHANGED = bits 7 7
+abbrev pub STATUS-CHANGED : Field
+STATUS-CHANGED = bits 7 7
 
 -- ---- the control bits
 
 -- bit 8: 1 is no parity (4.2 bit 8)
-abbrev pub INHIBIT : Field
-INHIBIT = bits 8 8
+abbrev pub PARITY-INHIBIT : Field
+PARITY-INHIBIT = bits 8 8
 
 -- bit 9: 0 is one stop, 1 is two (4.2 bit 9)
-abbrev pub STOPS : Field
-STOPS = bits 9 9
+abbrev pub STOP-BAUDS : Field
+STOP-BAUDS = bits 9 9
 
 -- bits 10 and 11: 00 to 11 are 5 to 8 data bits (4.2 bits 10 and 11)
 abbrev pub LENGTH : Field
 LENGTH = bits 10 11
 
 -- bit 12: 0 is odd parity, 1 is even (4.2 bit 12)
-abbrev pub EVEN : Field
-EVEN = bits 12 12
+abbrev pub EVEN-PARITY : Field
+EVEN-PARITY = bits 12 12
 
 -- bits 13 to 15: the speed (4.2 bits 13 to 15; document 01, the eight speeds)
 abbrev pub SPEED : Field
@@ -192,28 +196,28 @@ SPEED = bits 13 15
 -- ---- the status word
 
 -- bit 0: the 10 ms clock (4.7 bit 0)
-abbrev pub TICK : Field
-TICK = bits 0 0
+abbrev pub REAL-TIME : Field
+REAL-TIME = bits 0 0
 
 -- bit 1: more than one done since START (4.7 bit 1; document 01, Interrupt)
-abbrev pub MANY : Field
-MANY = bits 1 1
+abbrev pub MORE-THAN-ONE : Field
+MORE-THAN-ONE = bits 1 1
 
 -- bit 2: input done (4.7 bit 2)
-abbrev pub INPUT : Field
-INPUT = bits 2 2
+abbrev pub INPUT-DONE : Field
+INPUT-DONE = bits 2 2
 
 -- bit 3: output done (4.7 bit 3)
-abbrev pub OUTPUT : Field
-OUTPUT = bits 3 3
+abbrev pub OUTPUT-DONE : Field
+OUTPUT-DONE = bits 3 3
 
 -- bits 4 to 10: the address of the port that was done last (4.7 bits 4 to 10)
-abbrev pub ADDRESS : Field
-ADDRESS = bits 4 10
+abbrev pub PORT-ADDRESS : Field
+PORT-ADDRESS = bits 4 10
 
 -- bits 11 to 15: 0 (document 01, Interrupt)
-abbrev pub BELOW : Field
-BELOW = bits 11 15
+abbrev pub STATUS-UNUSED : Field
+STATUS-UNUSED = bits 11 15
 
 -- ---- the halves of a word (document 01, Input 6): even is the left, odd the right
 
@@ -222,18 +226,3 @@ LEFT = bits 0 7
 
 abbrev pub RIGHT : Field
 RIGHT = bits 8 15
-
--- ---- what 7-bit ASCII mode makes of a byte is a byte
-
-marked-fits : (s : Bool) (c : ℕ) → c < 256 → pick s (128 + c % 128) c < 256
-unfolding pick
-marked-fits true c h = omega arith
-marked-fits false c h = h
-
-pub stored-fits : (s : Bool) (c : ℕ) → c < 256 → storedByte s c < 256
-unfolding storedByte
-stored-fits s c h = marked-fits s c h
-
-pub word-fits : (s : Bool) (c : ℕ) → c < 256 → wordByte s c < 256
-unfolding wordByte
-word-fits s c h = marked-fits s c h

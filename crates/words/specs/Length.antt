@@ -1,7 +1,6 @@
 -- A port's length and the cut of a character to it (document 01, what the lines do; 001, 4.2 bits 10 and 11).
 -- Assumes nothing.
-use Prim.Native.Nat.{ℕ, _+_, _%_, _^_, _<_}
-use lib.Pow.{pow-pos}
+use Prim.Native.Nat.{ℕ, _+_, _%_, _^_}
 use Rattle.words.specs.Field.{get}
 use Rattle.words.specs.Codes.{LENGTH}
 
@@ -16,8 +15,3 @@ spanOf control = 2 ^ lengthOf control
 -- the character with the bits above the port's length made 0
 unfoldable pub cut : ℕ → ℕ → ℕ
 cut control c = c % spanOf control
-
--- every length has a code
-pub span-positive : (control : ℕ) → 0 < spanOf control
-unfolding spanOf
-span-positive control = pow-pos (lengthOf control)

@@ -6,6 +6,7 @@
 --   Special   special and ordinary codes
 --   Length    the cut to a port's length
 --   Speed     the eight speeds
+-- What follows from them stands in laws/.
 pub mod Field
 pub mod Codes
 pub mod Pointer
@@ -13,3 +14,4 @@ pub mod Byte
 pub mod Special
 pub mod Length
 pub mod Speed
+pub mod laws

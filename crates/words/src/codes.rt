@@ -31,7 +31,7 @@ pub const IN_NONE: u16 = 1;
 
 pub const IN_ECHO: u16 = 3;
 
-pub const SEVEN: Field = Field {
+pub const ASCII: Field = Field {
     unit: 4096,
     span: 2,
 };
@@ -49,13 +49,13 @@ pub const FLAG_OVERLOAD: u16 = 2;
 
 pub const FLAG_BREAK: u16 = 3;
 
-pub const UNECHOED: Field = Field { unit: 512, span: 2 };
+pub const NOT_ECHOED: Field = Field { unit: 512, span: 2 };
 
-pub const UNECHOED_BY_ERROR: u16 = 0;
+pub const NOT_ECHOED_BY_ERROR: u16 = 0;
 
-pub const UNECHOED_BY_SPECIAL: u16 = 0;
+pub const NOT_ECHOED_BY_SPECIAL: u16 = 0;
 
-pub const LATE: Field = Field { unit: 256, span: 2 };
+pub const SERVICE_OVERLOAD: Field = Field { unit: 256, span: 2 };
 
 pub const CHARACTER: Field = Field { unit: 1, span: 256 };
 
@@ -76,59 +76,64 @@ pub const OUT_AUTO: u16 = 1;
 
 pub const OUT_CONTROL: u16 = 2;
 
-pub const REQUEST: Field = Field {
+pub const SPECIAL_REQUEST: Field = Field {
     unit: 4096,
     span: 2,
 };
 
-pub const STATUS: Field = Field {
+pub const DEVICE_CONTROL: Field = Field {
+    unit: 4096,
+    span: 2,
+};
+
+pub const DEVICE_STATUS: Field = Field {
     unit: 2048,
     span: 2,
 };
 
-pub const PREVIOUS: Field = Field {
+pub const PREVIOUS_STATUS: Field = Field {
     unit: 1024,
     span: 2,
 };
 
 pub const UNUSED: Field = Field { unit: 512, span: 2 };
 
-pub const CHANGED: Field = Field { unit: 256, span: 2 };
+pub const STATUS_CHANGED: Field = Field { unit: 256, span: 2 };
 
 // The eight control bits of a port, bits 8 to 15 of a port control OCW (001, section 4.2).
-pub const INHIBIT: Field = Field { unit: 128, span: 2 };
+pub const PARITY_INHIBIT: Field = Field { unit: 128, span: 2 };
 
 pub const LENGTH: Field = Field { unit: 16, span: 4 };
 
 pub const SPEED: Field = Field { unit: 1, span: 8 };
 
 // The status word (001, section 4.7).
-pub const TICK: Field = Field {
+pub const REAL_TIME: Field = Field {
     unit: 32768,
     span: 2,
 };
 
-pub const MANY: Field = Field {
+pub const MORE_THAN_ONE: Field = Field {
     unit: 16384,
     span: 2,
 };
 
-pub const INPUT: Field = Field {
+pub const INPUT_DONE: Field = Field {
     unit: 8192,
     span: 2,
 };
 
-pub const OUTPUT: Field = Field {
+pub const OUTPUT_DONE: Field = Field {
     unit: 4096,
     span: 2,
 };
 
-pub const ADDRESS: Field = Field {
+pub const PORT_ADDRESS: Field = Field {
     unit: 32,
     span: 128,
 };
 
-pub const BELOW: Field = Field { unit: 1, span: 32 };
+pub const STATUS_UNUSED: Field = Field { unit: 1, span: 32 };
 
 // The halves of a word (document 01, Input 6).
 pub const LEFT: Field = Field {

@@ -1,8 +1,8 @@
 // A bit field of a 16-bit word: read and written by division, so that its meaning is plain arithmetic.
 ghost use mathlib.Core.Path.{_≡_};
-ghost use Prim.Native.Nat.{_<_, _≤_};
+ghost use Prim.Native.Nat.{_<_};
 ghost use lib.Dec.{eqb};
-ghost use Rattle.ground.specs.Choose.{bit};
+ghost use Rattle.ground.specs.Choose.{bit, Below};
 ghost use Rattle.words.specs.Field.{Whole, get, put};
 
 // The weight of the field's last bit, and how many values the field can have.
@@ -14,7 +14,7 @@ pub struct Field {
 // The field's value.
 pub fn get(w: u16, f: Field) -> u16
     requires { ⌜ Whole f ⌝ }
-    ensures { λ r. ⌜ (r ≡ get f w) × (r < f .span) ⌝ }
+    ensures { λ r. ⌜ Below (f .span) (get f w) r ⌝ }
 {
     w / f.unit % f.span
 }
@@ -38,7 +38,7 @@ pub fn put(w: u16, f: Field, v: u16) -> u16
 
 // A bit's number.
 pub fn bit(b: bool) -> u16
-    ensures { λ r. ⌜ (r ≡ bit b) × (r ≤ 1) ⌝ }
+    ensures { λ r. ⌜ Below 2 (bit b) r ⌝ }
 {
     if b { 1 } else { 0 }
 }

@@ -4,9 +4,6 @@ use borrow.Author.Needs.{needs}
 use Rattle.words.proofs.ascii.marked.Statement.{statement}
 use Rattle.words.proofs.ascii.marked.Tie as tie
 
-add-result : tie.Need-add-result
-add-result c = search needs
-
 returns : tie.Need-returns
 unfolding pick
 returns c = simp (c .if1 .taken)
@@ -16,4 +13,4 @@ unfolding pick
 returns-2 c = simp (c .if1 .left)
 
 pub marked-spec : {M : Type 1} → statement M
-marked-spec = tie.close (tie.spec add-result returns returns-2)
+marked-spec = tie.close (tie.spec (λ c. search needs) returns returns-2)

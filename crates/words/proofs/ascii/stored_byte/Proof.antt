@@ -4,12 +4,9 @@ use borrow.Author.Needs.{needs}
 use Rattle.words.proofs.ascii.stored_byte.Statement.{statement}
 use Rattle.words.proofs.ascii.stored_byte.Tie as tie
 
-marked-requires : tie.Need-marked-requires
-marked-requires c κs = search needs
-
 returns : tie.Need-returns
 unfolding storedByte
 returns c = c .marked .ensures
 
 pub stored-byte-spec : {M : Type 1} → statement M
-stored-byte-spec = tie.close (tie.spec marked-requires returns)
+stored-byte-spec = tie.close (tie.spec (λ c κs. search needs) returns)

@@ -4,12 +4,9 @@ use borrow.Author.Needs.{needs}
 use Rattle.words.proofs.ascii.word_byte.Statement.{statement}
 use Rattle.words.proofs.ascii.word_byte.Tie as tie
 
-marked-requires : tie.Need-marked-requires
-marked-requires c κs = search needs
-
 returns : tie.Need-returns
 unfolding wordByte
 returns c = c .marked .ensures
 
 pub word-byte-spec : {M : Type 1} → statement M
-word-byte-spec = tie.close (tie.spec marked-requires returns)
+word-byte-spec = tie.close (tie.spec (λ c κs. search needs) returns)

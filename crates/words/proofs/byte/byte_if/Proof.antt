@@ -5,12 +5,6 @@ use Rattle.words.proofs.byte.byte_if.Statement.{statement}
 use Rattle.words.specs.Byte.{byteIf}
 use Rattle.words.proofs.byte.byte_if.Tie as tie
 
-store-requires : tie.Need-store-requires
-store-requires c κs = search needs
-
-same-length : tie.Need-same-length
-same-length c = search needs
-
 returns : tie.Need-returns
 unfolding byteIf pick
 returns c = simp (c .before .before .before .before .if1 .taken) (c .before .before .store .ensures)
@@ -20,4 +14,4 @@ unfolding byteIf pick
 returns-2 c = simp (c .if1 .left)
 
 pub byte-if-spec : {M : Type 1} → statement M
-byte-if-spec = tie.close (tie.spec store-requires same-length returns returns-2)
+byte-if-spec = tie.close (tie.spec (λ c κs. search needs) (λ c. search needs) returns returns-2)

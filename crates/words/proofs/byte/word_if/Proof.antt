@@ -5,15 +5,6 @@ use Rattle.words.proofs.byte.word_if.Statement.{statement}
 use Rattle.words.specs.Byte.{wordIf}
 use Rattle.words.proofs.byte.word_if.Tie as tie
 
-mul-mem : tie.Need-mul-mem
-mul-mem c = search needs
-
-slice-write-mem : tie.Need-slice-write-mem
-slice-write-mem c = search needs
-
-same-length : tie.Need-same-length
-same-length c = search needs
-
 returns : tie.Need-returns
 unfolding wordIf pick
 returns c = simp (c .if1 .taken)
@@ -23,4 +14,7 @@ unfolding wordIf pick
 returns-2 c = simp (c .if1 .left)
 
 pub word-if-spec : {M : Type 1} → statement M
-word-if-spec = tie.close (tie.spec mul-mem slice-write-mem same-length returns returns-2)
+word-if-spec =
+    tie.close
+    (tie.spec
+    (λ c. search needs) (λ c. search needs) (λ c. search needs) returns returns-2)

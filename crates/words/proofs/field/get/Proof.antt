@@ -6,15 +6,9 @@ use Rattle.words.proofs.field.get.Statement.{statement}
 use Rattle.words.specs.Field.{get}
 use Rattle.words.proofs.field.get.Tie as tie
 
-div-result : tie.Need-div-result
-div-result c = search needs
-
-rem-result : tie.Need-rem-result
-rem-result c = search needs
-
 returns : tie.Need-returns
 unfolding get
-returns c = (refl, mod-lt _ (c .before .before .pre .span-positive))
+returns c = record { is = refl; below = mod-lt _ (c .before .before .pre .span-positive) }
 
 pub get-spec : {M : Type 1} → statement M
-get-spec = tie.close (tie.spec div-result rem-result returns)
+get-spec = tie.close (tie.spec (λ c. search needs) (λ c. search needs) returns)

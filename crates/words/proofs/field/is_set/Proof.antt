@@ -3,11 +3,8 @@ use borrow.Author.Needs.{needs}
 use Rattle.words.proofs.field.is_set.Statement.{statement}
 use Rattle.words.proofs.field.is_set.Tie as tie
 
-get-requires : tie.Need-get-requires
-get-requires c κs = search needs
-
 returns : tie.Need-returns
 returns c = cc
 
 pub is-set-spec : {M : Type 1} → statement M
-is-set-spec = tie.close (tie.spec get-requires returns)
+is-set-spec = tie.close (tie.spec (λ c κs. search needs) returns)

@@ -4,14 +4,9 @@ use Prim.Native.Nat.{_<_}
 use native.Mathlib.Omega.{arith}
 use borrow.Author.Needs.{needs}
 use Rattle.words.proofs.field.put.Statement.{statement}
-use Rattle.words.specs.Field.{get, put, part-le, put-fits}
+use Rattle.words.specs.Field.{get, put}
+use Rattle.words.specs.laws.Field.{part-le, put-fits}
 use Rattle.words.proofs.field.put.Tie as tie
-
-div-result : tie.Need-div-result
-div-result c = search needs
-
-rem-result : tie.Need-rem-result
-rem-result c = search needs
 
 written : (c : tie.After-struct-known4) → put (c .before .before .before .before .args .f) (c .before .before .before .before .args .v) (c .before .before .before .before .args .w) < 65536
 written c =
@@ -41,4 +36,5 @@ returns c = refl
 pub put-spec : {M : Type 1} → statement M
 put-spec =
     tie.close
-    (tie.spec div-result rem-result mul-result sub-result mul-result-2 add-result returns)
+    (tie.spec
+    (λ c. search needs) (λ c. search needs) mul-result sub-result mul-result-2 add-result returns)

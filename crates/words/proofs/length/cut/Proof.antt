@@ -5,11 +5,9 @@ use native.Mathlib.Nat.{mod-le}
 use native.Mathlib.Omega.{arith}
 use borrow.Author.Needs.{needs}
 use Rattle.words.proofs.length.cut.Statement.{statement}
-use Rattle.words.specs.Length.{cut, span-positive}
+use Rattle.words.specs.Length.{cut}
+use Rattle.words.specs.laws.Length.{span-positive}
 use Rattle.words.proofs.length.cut.Tie as tie
-
-span-of-requires : tie.Need-span-of-requires
-span-of-requires c κs = search needs
 
 rem-result : tie.Need-rem-result
 rem-result c = subst⁻¹ (λ (n : ℕ). 0 < n) (c .span-of .ensures) (span-positive (c .before .args .control))
@@ -22,4 +20,4 @@ unfolding cut
 returns c = cc
 
 pub cut-spec : {M : Type 1} → statement M
-cut-spec = tie.close (tie.spec span-of-requires rem-result cast-result returns)
+cut-spec = tie.close (tie.spec (λ c κs. search needs) rem-result cast-result returns)

@@ -9,18 +9,6 @@ use Rattle.words.proofs.length.span_of.Statement.{statement}
 use Rattle.words.specs.Length.{spanOf, lengthOf}
 use Rattle.words.proofs.length.span_of.Tie as tie
 
-get-requires : tie.Need-get-requires
-get-requires c κs = search needs
-
-cast-at : tie.Need-cast-at
-cast-at c = search needs
-
-mul-result : tie.Need-mul-result
-mul-result c = search needs
-
-array-read-result : tie.Need-array-read-result
-array-read-result c = search needs
-
 spans : (k : ℕ) → k < 4 → getD (32 ∷ 64 ∷ 128 ∷ 256 ∷ []) k 0 ≡ 2 ^ (5 + k)
 spans zero h = refl
 spans (suc zero) h = refl
@@ -30,7 +18,10 @@ spans (suc (suc (suc (suc k)))) h = absurd (omega arith)
 
 returns : tie.Need-returns
 unfolding spanOf lengthOf
-returns c = spans (c .get .result) (c .get .ensures .1) ∙ ap (λ (k : ℕ). 2 ^ (5 + k)) (c .get .ensures .0)
+returns c = spans (c .get .result) (c .get .ensures .below) ∙ ap (λ (k : ℕ). 2 ^ (5 + k)) (c .get .ensures .is)
 
 pub span-of-spec : {M : Type 1} → statement M
-span-of-spec = tie.close (tie.spec get-requires cast-at mul-result array-read-result returns)
+span-of-spec =
+    tie.close
+    (tie.spec
+    (λ c κs. search needs) (λ c. search needs) (λ c. search needs) (λ c. search needs) returns)

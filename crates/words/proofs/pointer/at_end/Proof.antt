@@ -4,12 +4,9 @@ use Rattle.words.proofs.pointer.at_end.Statement.{statement}
 use Rattle.words.specs.Pointer.{atEnd}
 use Rattle.words.proofs.pointer.at_end.Tie as tie
 
-step-ptr-requires : tie.Need-step-ptr-requires
-step-ptr-requires c κs = search needs
-
 returns : tie.Need-returns
 unfolding atEnd
 returns c = rw (c .step-ptr .ensures)
 
 pub at-end-spec : {M : Type 1} → statement M
-at-end-spec = tie.close (tie.spec step-ptr-requires returns)
+at-end-spec = tie.close (tie.spec (λ c κs. search needs) returns)

@@ -1,0 +1,9 @@
+-- Every length has a code.
+-- Assumes nothing.
+use Prim.Native.Nat.{ℕ, _<_}
+use lib.Pow.{pow-pos}
+use Rattle.words.specs.Length.{lengthOf, spanOf}
+
+pub span-positive : (control : ℕ) → 0 < spanOf control
+unfolding spanOf
+span-positive control = pow-pos (lengthOf control)
