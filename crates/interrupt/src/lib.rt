@@ -1,15 +1,21 @@
-// The interrupt side of the unit: the flag and the status word, and all that changes them.
-use words::codes::ADDRESS;
-use words::codes::BELOW;
-use words::codes::INPUT;
-use words::codes::MANY;
-use words::codes::OUTPUT;
-use words::codes::TICK;
+// The interrupt side of the unit: the flag and the status word, and all that changes them. No other crate reads or writes inside it.
+use words::codes::INPUT_DONE;
+use words::codes::MORE_THAN_ONE;
+use words::codes::OUTPUT_DONE;
+use words::codes::PORT_ADDRESS;
+use words::codes::REAL_TIME;
+use words::codes::STATUS_UNUSED;
 use words::field::is_set;
 use words::field::put;
 ghost use mathlib.Core.Path.{_≡_};
 ghost use Prim.Native.Nat.{_<_};
-ghost use Rattle.interrupt.specs.Interrupt.{calm, busy, manyMarked, kindMarked, statusAfter, raised, started, ticked, shown};
+ghost use Rattle.interrupt.specs.Interrupt.{fresh, cleared, unsound, busy, moreMarked, serviceMarked, statusAfter, raised, started, ticked, shown};
+
+// The two services of a port, each of which may raise an interrupt.
+pub enum Service {
+    Input,
+    Output,
+}
 
 // The interrupt flag and the status word.
 pub struct Irq {
@@ -17,9 +23,9 @@ pub struct Irq {
     pub status: u16,
 }
 
-// Flag and status 0.
-pub fn calm() -> Irq
-    ensures { λ r. ⌜ r ≡ calm ⌝ }
+// A new unit's: flag and status 0.
+pub fn fresh() -> Irq
+    ensures { λ r. ⌜ r ≡ fresh ⌝ }
 {
     Irq {
         flag: false,
@@ -27,53 +33,67 @@ pub fn calm() -> Irq
     }
 }
 
+// After a reset.
+pub fn cleared(i: Irq) -> Irq
+    ensures { λ r. ⌜ r ≡ cleared i ⌝ }
+{
+    fresh()
+}
+
+// Whether it is one that no unit can have: this part of row 6 never applies, for every flag goes with every word.
+pub fn unsound(i: Irq) -> bool
+    ensures { λ r. ⌜ r ≡ unsound i ⌝ }
+{
+    false
+}
+
 // Whether some port was done since START.
 fn busy(w: u16) -> bool
     ensures { λ r. ⌜ r ≡ busy w ⌝ }
 {
-    if is_set(w, INPUT) {
+    if is_set(w, INPUT_DONE) {
         return true;
     }
-    is_set(w, OUTPUT)
+    is_set(w, OUTPUT_DONE)
 }
 
 // Bit 1, where some port was done since START.
-fn many_marked(w: u16) -> u16
-    ensures { λ r. ⌜ r ≡ manyMarked w ⌝ }
+fn more_marked(w: u16) -> u16
+    ensures { λ r. ⌜ r ≡ moreMarked w ⌝ }
 {
     if busy(w) {
-        return put(w, MANY, 1);
+        return put(w, MORE_THAN_ONE, 1);
     }
     w
 }
 
 // Bit 2 for input, bit 3 for output.
-fn kind_marked(w: u16, input: bool) -> u16
-    ensures { λ r. ⌜ r ≡ kindMarked input w ⌝ }
+fn service_marked(w: u16, s: Service) -> u16
+    ensures { λ r. ⌜ r ≡ serviceMarked s w ⌝ }
 {
-    if input {
-        return put(w, INPUT, 1);
+    match s {
+        Service::Input => put(w, INPUT_DONE, 1),
+        Service::Output => put(w, OUTPUT_DONE, 1),
     }
-    put(w, OUTPUT, 1)
 }
 
 // The status word after the port of that address was done.
-fn status_after(w: u16, input: bool, address: u16) -> u16
+fn status_after(w: u16, s: Service, address: u16) -> u16
     requires { ⌜ address < 128 ⌝ }
-    ensures { λ r. ⌜ r ≡ statusAfter input address w ⌝ }
+    ensures { λ r. ⌜ r ≡ statusAfter s address w ⌝ }
 {
-    let marked = kind_marked(many_marked(w), input);
-    put(put(marked, ADDRESS, address), BELOW, 0)
+    let marked = service_marked(more_marked(w), s);
+    put(put(marked, PORT_ADDRESS, address), STATUS_UNUSED, 0)
 }
 
 // An interrupt raised by the port of that address.
-pub fn raise(i: Irq, input: bool, address: u16) -> Irq
+pub fn raise(i: Irq, s: Service, address: u16) -> Irq
     requires { ⌜ address < 128 ⌝ }
-    ensures { λ r. ⌜ r ≡ raised input address i ⌝ }
+    ensures { λ r. ⌜ r ≡ raised s address i ⌝ }
 {
     Irq {
         flag: true,
-        status: status_after(i.status, input, address),
+        status: status_after(i.status, s, address),
     }
 }
 
@@ -81,7 +101,7 @@ pub fn raise(i: Irq, input: bool, address: u16) -> Irq
 pub fn start(i: Irq) -> Irq
     ensures { λ r. ⌜ r ≡ started i ⌝ }
 {
-    calm()
+    fresh()
 }
 
 // A tick with the clock on.
@@ -90,7 +110,7 @@ pub fn tick(i: Irq) -> Irq
 {
     Irq {
         flag: true,
-        status: put(i.status, TICK, 1),
+        status: put(i.status, REAL_TIME, 1),
     }
 }
 
