@@ -1,8 +1,38 @@
-// The refusal numbers that setup, the processor's calls and the lines' calls ask for first: the table of document 01, row by row.
-use crate::Mux;
+// The numbers a call may refuse with: the table of document 01, row by row, and what each kind of call asks for first.
+use crate::mux::Mux;
+use crate::mux::Setting;
 ghost use mathlib.Core.Path.{_≡_};
 ghost use Prim.Native.Nat.{_<_, _≤_};
-ghost use Rattle.unit.specs.Refusals.{badBlock, badPorts, badBase, crosses, overruns, refusal, ofSetup, ofUnit, ofPort, unsound};
+ghost use Rattle.ground.specs.Choose.{firstOf};
+ghost use Rattle.unit.specs.Refusals.{badBlock, badPorts, badBase, crosses, overruns, sizeRows, baseRows, areaRows, refusal, ofSetup, ofUnit, ofPort, ofInspection, ofSweep, unsound};
+
+// How many words of memory are lent, how many ports a unit may have, how many inspections a sweep may ask for.
+pub const WORDS: usize = 32768;
+
+pub const MOST_PORTS: u32 = 128;
+
+pub const MOST_INSPECTIONS: u32 = 4096;
+
+// The numbers, with the names of specs/Refusals.antt.
+pub const BAD_BLOCK: u8 = 1;
+
+pub const BAD_PORTS: u8 = 2;
+
+pub const BAD_BASE: u8 = 3;
+
+pub const CROSSES: u8 = 4;
+
+pub const OVERRUNS: u8 = 5;
+
+pub const UNSOUND: u8 = 6;
+
+pub const BAD_MEMORY: u8 = 7;
+
+pub const NO_PORT: u8 = 8;
+
+pub const TOO_MANY: u8 = 9;
+
+pub const SHORT_LIST: u8 = 10;
 
 // Row 1: b is not 8, 16 or 32.
 fn bad_block(b: u32) -> bool
@@ -24,7 +54,7 @@ fn bad_ports(n: u32) -> bool
     if n == 0 {
         return true;
     }
-    128 < n
+    MOST_PORTS < n
 }
 
 // Row 3: the base is not a multiple of 8b, or is above 32767.
@@ -58,57 +88,126 @@ fn overruns(b: u32, n: u32, a: u32) -> bool
     32768 < a + n * b
 }
 
-// Rows 1 to 5: the number that setup refuses a setting with, or 0.
-pub fn setup_code(b: u32, n: u32, a: u32) -> u8
-    ensures { λ r. ⌜ r ≡ refusal (ofSetup b n a) ⌝ }
+// Rows 1 and 2: the sizes.
+fn size_code(s: Setting) -> u8
+    ensures { λ r. ⌜ r ≡ firstOf (sizeRows s) ⌝ }
 {
-    if bad_block(b) {
-        return 1;
+    if bad_block(s.block) {
+        return BAD_BLOCK;
     }
-    if bad_ports(n) {
-        return 2;
-    }
-    if bad_base(b, a) {
-        return 3;
-    }
-    if crosses(b, n, a) {
-        return 4;
-    }
-    if overruns(b, n, a) {
-        return 5;
+    if bad_ports(s.ports) {
+        return BAD_PORTS;
     }
     0
+}
+
+// Row 3: the base.
+fn base_code(s: Setting) -> u8
+    requires { ⌜ firstOf (sizeRows s) ≡ 0 ⌝ }
+    ensures { λ r. ⌜ r ≡ firstOf (baseRows s) ⌝ }
+{
+    if bad_base(s.block, s.base) {
+        return BAD_BASE;
+    }
+    0
+}
+
+// Rows 4 and 5: the area.
+fn area_code(s: Setting) -> u8
+    requires { ⌜ firstOf (sizeRows s) ≡ 0 ⌝ }
+    requires { ⌜ firstOf (baseRows s) ≡ 0 ⌝ }
+    ensures { λ r. ⌜ r ≡ firstOf (areaRows s) ⌝ }
+{
+    if crosses(s.block, s.ports, s.base) {
+        return CROSSES;
+    }
+    if overruns(s.block, s.ports, s.base) {
+        return OVERRUNS;
+    }
+    0
+}
+
+// What setup is refused with, or 0.
+pub fn setup_code(s: Setting) -> u8
+    ensures { λ r. ⌜ r ≡ refusal (ofSetup s) ⌝ }
+{
+    let size = size_code(s);
+    if size != 0 {
+        return size;
+    }
+    let base = base_code(s);
+    if base != 0 {
+        return base;
+    }
+    area_code(s)
 }
 
 // Row 6: the record is unsound.
 fn unsound(u: Mux) -> bool
     ensures { λ r. ⌜ r ≡ unsound u ⌝ }
 {
-    if setup_code(u.block, u.ports, u.base) != 0 {
+    let s = u.setting;
+    if setup_code(s) != 0 {
         return true;
     }
-    u.ports <= u.pos
+    if s.ports <= u.pos {
+        return true;
+    }
+    let i = u.irq;
+    interrupt::unsound(i)
 }
 
-// Row 6 as a number: what a call on the record alone is refused with, or 0.
+// What a call on the record alone is refused with, or 0.
 pub fn sound_code(u: Mux) -> u8
     ensures { λ r. ⌜ r ≡ refusal (ofUnit u) ⌝ }
 {
     if unsound(u) {
-        return 6;
+        return UNSOUND;
     }
     0
 }
 
-// Rows 6 and 8: what a call on a port is refused with, or 0.
+// What a call on a port is refused with, or 0.
 pub fn port_code(u: Mux, p: u32) -> u8
     ensures { λ r. ⌜ r ≡ refusal (ofPort u p) ⌝ }
 {
     if unsound(u) {
-        return 6;
+        return UNSOUND;
     }
-    if u.ports <= p {
-        return 8;
+    let s = u.setting;
+    if s.ports <= p {
+        return NO_PORT;
+    }
+    0
+}
+
+// What an inspection is refused with, or 0.
+pub fn inspect_code(u: Mux, mem: &[u16]) -> u8
+    ensures { λ r. ⌜ r ≡ refusal (ofInspection u (now (mem .entry))) ⌝ }
+{
+    let code = sound_code(u);
+    if code != 0 {
+        return code;
+    }
+    if mem.len() != WORDS {
+        return BAD_MEMORY;
+    }
+    0
+}
+
+// What a sweep is refused with, or 0.
+pub fn sweep_code(u: Mux, mem: &[u16], n: u32, list: &[u16]) -> u8
+    ensures { λ r. ⌜ r ≡ refusal (ofSweep u (now (mem .entry)) n (now (list .entry))) ⌝ }
+{
+    let code = inspect_code(u, mem);
+    if code != 0 {
+        return code;
+    }
+    if MOST_INSPECTIONS < n {
+        return TOO_MANY;
+    }
+    if list.len() < n as usize {
+        return SHORT_LIST;
     }
     0
 }

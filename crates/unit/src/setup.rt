@@ -1,14 +1,14 @@
 // Setup: a new unit, or the number and the record of zeros.
-use crate::Character;
-use crate::Mux;
-use crate::Port;
-use crate::Reply;
-use crate::accepted;
+use crate::mux::Character;
+use crate::mux::Mux;
+use crate::mux::Port;
+use crate::mux::Setting;
 use crate::refusal::setup_code;
-use crate::refused;
-use interrupt::calm;
+use crate::reply::Replied;
+use crate::reply::accepted;
+use crate::reply::refused;
 ghost use mathlib.Core.Path.{_≡_};
-ghost use Rattle.unit.specs.Record.{noCharacter, noPort, freshPort, fresh, noMux};
+ghost use Rattle.unit.specs.Record.{noCharacter, noPort, freshPort, noSetting, fresh, noMux};
 ghost use Rattle.unit.specs.Setup.{setup};
 
 // No character: the fields where none is held.
@@ -32,8 +32,8 @@ fn no_port() -> Port
         ch: no_character(),
         empty: false,
         control: 0,
-        level: false,
-        line: false,
+        devcontrol: false,
+        devstatus: false,
     }
 }
 
@@ -41,13 +41,20 @@ fn no_port() -> Port
 fn fresh_port() -> Port
     ensures { λ r. ⌜ r ≡ freshPort ⌝ }
 {
-    Port {
-        held: false,
-        ch: no_character(),
-        empty: true,
-        control: 0,
-        level: true,
-        line: false,
+    let mut q = no_port();
+    q.empty = true;
+    q.devcontrol = true;
+    q
+}
+
+// A setting of zeros.
+pub fn no_setting() -> Setting
+    ensures { λ r. ⌜ r ≡ noSetting ⌝ }
+{
+    Setting {
+        block: 0,
+        ports: 0,
+        base: 0,
     }
 }
 
@@ -56,40 +63,36 @@ pub fn no_mux() -> Mux
     ensures { λ r. ⌜ r ≡ noMux ⌝ }
 {
     Mux {
-        block: 0,
-        ports: 0,
-        base: 0,
+        setting: no_setting(),
         pos: 0,
         runs: false,
         clock: false,
-        irq: calm(),
+        irq: interrupt::fresh(),
         port: [no_port(); 128],
     }
 }
 
 // A fresh unit.
-fn fresh(b: u32, n: u32, a: u32) -> Mux
-    ensures { λ r. ⌜ r ≡ fresh b n a ⌝ }
+fn fresh(s: Setting) -> Mux
+    ensures { λ r. ⌜ r ≡ fresh s ⌝ }
 {
     Mux {
-        block: b,
-        ports: n,
-        base: a,
+        setting: s,
         pos: 0,
         runs: false,
         clock: false,
-        irq: calm(),
+        irq: interrupt::fresh(),
         port: [fresh_port(); 128],
     }
 }
 
 // Setup.
-pub fn setup(b: u32, n: u32, a: u32) -> Reply
-    ensures { λ r. ⌜ r ≡ setup b n a ⌝ }
+pub fn setup(s: Setting) -> Replied
+    ensures { λ r. ⌜ r ≡ setup s ⌝ }
 {
-    let code = setup_code(b, n, a);
+    let code = setup_code(s);
     if code != 0 {
         return refused(code, no_mux());
     }
-    accepted(0, fresh(b, n, a))
+    accepted(0, fresh(s))
 }

@@ -1,0 +1,67 @@
+-- Laws of the table of refusals (document 01, of that name).
+--   given                        each number exactly when its row applies and none before it, of every kind of call
+--   setup-refusal, by-size ..    setup's number, part by part
+--   inspection-refusal, sweep-refusal   a call's number is that of the smaller call, and then its own rows
+-- Assumes nothing.
+use mathlib.Core.Path.{_≡_, refl, _∙_}
+use mathlib.Core.Bool.{Bool, true, false, not}
+use mathlib.Core.List.{List, _++_}
+use mathlib.Core.Logic.{_↔_}
+use Prim.Native.Nat.{ℕ}
+use lib.Dec.{eqb, ltb}
+use lib.ListN.{length}
+use Rattle.ground.specs.Choose.{pick, asked, firstOf}
+use Rattle.ground.specs.laws.Rows.{Gives, first-gives, first-then, first-stops}
+use Rattle.unit.specs.declared.mux.Setting.{Setting}
+use Rattle.unit.specs.declared.mux.Mux.{Mux}
+use Rattle.unit.specs.Refusals.{WORDS, MOST-INSPECTIONS, BAD-MEMORY, TOO-MANY, SHORT-LIST, sizeRows, baseRows, areaRows, settingRows, unsound, Given, rowsOf, callRows, tableOf, refusal, ofSetup, ofUnit, ofInspection, ofSweep}
+
+-- the table gives k exactly where the call is refused with k: every kind of call, and 0 for none
+pub given : (g : Given) (k : ℕ) → (refusal g ≡ k) ↔ Gives (tableOf g) k
+unfolding refusal
+given g k = first-gives (tableOf g) k
+
+-- ---- setup's number, part by part
+
+-- setup is given its own rows alone
+pub setup-refusal : (s : Setting) → refusal (ofSetup s) ≡ firstOf (settingRows s)
+unfolding refusal tableOf rowsOf callRows settingRows sizeRows baseRows areaRows firstOf asked pick
+setup-refusal s = refl
+
+pub by-size : (s : Setting) → (firstOf (sizeRows s) ≡ 0 → ⊥) → refusal (ofSetup s) ≡ firstOf (sizeRows s)
+unfolding settingRows
+by-size s h = setup-refusal s ∙ first-stops (sizeRows s) (baseRows s ++ areaRows s) h
+
+-- the sizes passed
+after-size : (s : Setting) → firstOf (sizeRows s) ≡ 0 → refusal (ofSetup s) ≡ firstOf (baseRows s ++ areaRows s)
+unfolding settingRows sizeRows
+after-size s e = setup-refusal s ∙ first-then (sizeRows s) (baseRows s ++ areaRows s) refl e
+
+pub by-base : (s : Setting) → firstOf (sizeRows s) ≡ 0 → (firstOf (baseRows s) ≡ 0 → ⊥) → refusal (ofSetup s) ≡ firstOf (baseRows s)
+by-base s e h = after-size s e ∙ first-stops (baseRows s) (areaRows s) h
+
+pub by-area : (s : Setting) → firstOf (sizeRows s) ≡ 0 → firstOf (baseRows s) ≡ 0 → refusal (ofSetup s) ≡ firstOf (areaRows s)
+unfolding baseRows
+by-area s e f = after-size s e ∙ first-then (baseRows s) (areaRows s) refl f
+
+-- ---- a call's number is that of the smaller call, and then its own rows
+
+-- an inspection's number is its record's, and then row 7
+pub inspection-refusal : (u : Mux) (m : List ℕ) → refusal (ofInspection u m) ≡ pick (eqb (refusal (ofUnit u)) 0) (pick (not (eqb (length m) WORDS)) BAD-MEMORY 0) (refusal (ofUnit u))
+unfolding refusal tableOf rowsOf callRows firstOf asked pick
+inspection-refusal u m = cases (unsound u) (not (eqb (length m) WORDS))
+  where
+    cases : (s t : Bool) → _≡_ {A = ℕ} (pick s 6 (pick t 7 0)) (pick (eqb (pick s 6 0) 0) (pick t 7 0) (pick s 6 0))
+    cases true t = refl
+    cases false t = refl
+
+-- a sweep's number is its inspections', and then rows 9 and 10
+pub sweep-refusal : (u : Mux) (m : List ℕ) (n : ℕ) (xs : List ℕ) → refusal (ofSweep u m n xs) ≡ pick (eqb (refusal (ofInspection u m)) 0) (pick (ltb MOST-INSPECTIONS n) TOO-MANY (pick (ltb (length xs) n) SHORT-LIST 0)) (refusal (ofInspection u m))
+unfolding refusal tableOf rowsOf callRows firstOf asked pick
+sweep-refusal u m n xs =
+    cases (unsound u) (not (eqb (length m) WORDS)) (pick (ltb MOST-INSPECTIONS n) TOO-MANY (pick (ltb (length xs) n) SHORT-LIST 0))
+  where
+    cases : (s t : Bool) (k : ℕ) → _≡_ {A = ℕ} (pick s 6 (pick t 7 k)) (pick (eqb (pick s 6 (pick t 7 0)) 0) k (pick s 6 (pick t 7 0)))
+    cases true t k = refl
+    cases false true k = refl
+    cases false false k = refl

@@ -1,0 +1,219 @@
+-- Refusal 0 is soundness (document 01, the table of refusals).
+--   good-block .. good-end   each row of the setting, read in numbers
+--   size-fits, base-fits     what the parts of setup's table let pass
+--   fits-iff, sound-iff      refusal 0 is exactly what Fits and Sound say
+--   port-iff .. sweep-iff    refusal 0 of each other kind of call
+--   sound-with               what keeps the setting, with a position below P and a sound interrupt side, keeps soundness: the one law for every change of a record
+--   fresh-sound              what setup makes is sound; the record of zeros is not
+--   block-inside             a port's control block lies in the memory
+-- Assumes nothing.
+use mathlib.Core.Path.{_≡_, refl, ap, _∙_, sym}
+use mathlib.Core.Bool.{true, false, not, _||_}
+use mathlib.Core.List.{List}
+use mathlib.Core.Logic.{_↔_, _⊎_, inl, inr}
+use Prim.Native.Nat.{ℕ, _+_, _-_, _*_, _/_, _%_, _<_, _≤_}
+use native.Mathlib.Nat.{mul-le-mul, mul-le-mul-right}
+use native.Mathlib.Omega.{arith}
+use lib.Dec.{eqb, leb, ltb}
+use lib.ListN.{length}
+use borrow.Author.Tests.{ltb-false, leb-false, eqb-true, eqb-false, not-false, le-ltb, lt-leb, eq-eqb, ne-eqb}
+use Rattle.ground.specs.Choose.{asked, firstOf}
+use Rattle.ground.specs.laws.Rows.{or-false, or-true, both-false, first-zero}
+use Rattle.interrupt.specs.Interrupt as Interrupt
+use Rattle.interrupt.specs.laws.Interrupt as Irq
+use Rattle.unit.specs.declared.mux.Setting.{Setting}
+use Rattle.unit.specs.declared.mux.Mux.{Mux}
+use Rattle.unit.specs.Record.{fresh, noMux, blockAt}
+use Rattle.unit.specs.Refusals.{WORDS, MOST-PORTS, MOST-INSPECTIONS, badBlock, badPorts, badBase, crosses, overruns, sizeRows, baseRows, areaRows, settingRows, unsound, rowsOf, callRows, tableOf, refusal, ofSetup, ofUnit, ofPort, ofInspection, ofSweep}
+use Rattle.unit.specs.Sound.{IsBlock, eight, sixteen, thirty-two, Fits, Sound}
+use Rattle.unit.specs.laws.Refusals.{setup-refusal}
+
+-- ---- the rows, read in numbers
+
+-- row 1 does not apply to a block size of 8, 16 or 32, and to no other
+pub good-block : (b : ℕ) → (badBlock b ≡ false) ↔ IsBlock b
+unfolding badBlock
+good-block b = (λ e. read (or-true (eqb b 8) (eqb b 16 || eqb b 32) (not-false _ e)), back)
+  where
+    second : (eqb b 16 ≡ true) ⊎ (eqb b 32 ≡ true) → IsBlock b
+    second (inl e) = sixteen (eqb-true b 16 e)
+    second (inr e) = thirty-two (eqb-true b 32 e)
+
+    read : (eqb b 8 ≡ true) ⊎ ((eqb b 16 || eqb b 32) ≡ true) → IsBlock b
+    read (inl e) = eight (eqb-true b 8 e)
+    read (inr e) = second (or-true (eqb b 16) (eqb b 32) e)
+
+    back : IsBlock b → not (eqb b 8 || (eqb b 16 || eqb b 32)) ≡ false
+    back (eight e) = rw e
+    back (sixteen e) = rw e
+    back (thirty-two e) = rw e
+
+-- row 2 does not apply to 1 to 128 ports, and to no other
+pub good-ports : (n : ℕ) → (badPorts n ≡ false) ↔ ((0 < n) × (n ≤ 128))
+unfolding badPorts
+good-ports n = (to, λ h. both-false (eqb n 0) (ltb MOST-PORTS n) (ne-eqb n 0 (omega arith)) (le-ltb 128 n (h .1)))
+  where
+    to : (eqb n 0 || ltb 128 n) ≡ false → (0 < n) × (n ≤ 128)
+    to e =
+        let p = or-false (eqb n 0) (ltb 128 n) e in
+        let z : n ≡ 0 → ⊥ = eqb-false n 0 (p .0) in
+        (omega arith, ltb-false 128 n (p .1))
+
+-- row 3 does not apply to a base that is a multiple of 8b and at most 32767, and to no other
+pub good-base : (b a : ℕ) → (badBase b a ≡ false) ↔ ((a % (8 * b) ≡ 0) × (a ≤ 32767))
+unfolding badBase
+good-base b a = (to, λ h. both-false (not (eqb (a % (8 * b)) 0)) (ltb 32767 a) (ap not (eq-eqb _ _ (h .0))) (le-ltb 32767 a (h .1)))
+  where
+    to : (not (eqb (a % (8 * b)) 0) || ltb 32767 a) ≡ false → (a % (8 * b) ≡ 0) × (a ≤ 32767)
+    to e =
+        let p = or-false (not (eqb (a % (8 * b)) 0)) (ltb 32767 a) e in
+        (eqb-true _ _ (not-false _ (p .0)), ltb-false 32767 a (p .1))
+
+-- row 4 does not apply where the area crosses no multiple of 128b, and nowhere else
+pub good-area : (b n a : ℕ) → (crosses b n a ≡ false) ↔ (a / (128 * b) ≡ (a + n * b - 1) / (128 * b))
+unfolding crosses
+good-area b n a = (λ e. eqb-true _ _ (not-false _ e), λ h. ap not (eq-eqb _ _ h))
+
+-- row 5 does not apply where the area ends inside the memory, and nowhere else
+pub good-end : (b n a : ℕ) → (overruns b n a ≡ false) ↔ (a + n * b ≤ 32768)
+unfolding overruns
+good-end b n a = (λ e. ltb-false 32768 _ e, λ h. le-ltb 32768 _ h)
+
+-- ---- the setting
+
+-- rows 1 and 2 passed
+pub size-fits : (s : Setting) → firstOf (sizeRows s) ≡ 0 → IsBlock (s .block) × ((0 < s .ports) × (s .ports ≤ 128))
+unfolding sizeRows
+size-fits s e =
+    let p = first-zero (sizeRows s) refl .0 e in
+    (good-block _ .0 (p .0), good-ports _ .0 (p .1 .0))
+
+-- row 3 passed
+pub base-fits : (s : Setting) → firstOf (baseRows s) ≡ 0 → (s .base % (8 * s .block) ≡ 0) × (s .base ≤ 32767)
+unfolding baseRows
+base-fits s e = good-base _ _ .0 (first-zero (baseRows s) refl .0 e .0)
+
+-- no row of 1 to 5 applies exactly where the setting fits
+pub fits-iff : (s : Setting) → (firstOf (settingRows s) ≡ 0) ↔ Fits s
+unfolding settingRows sizeRows baseRows areaRows
+fits-iff s = (to, from)
+  where
+    to : firstOf (settingRows s) ≡ 0 → Fits s
+    to e =
+        let p = first-zero (settingRows s) refl .0 e in
+        record {
+          block = good-block _ .0 (p .0);
+          some-port = good-ports _ .0 (p .1 .0) .0;
+          few-ports = good-ports _ .0 (p .1 .0) .1;
+          aligned = good-base _ _ .0 (p .1 .1 .0) .0;
+          low-base = good-base _ _ .0 (p .1 .1 .0) .1;
+          one-area = good-area _ _ _ .0 (p .1 .1 .1 .0);
+          inside = good-end _ _ _ .0 (p .1 .1 .1 .1 .0);
+        }
+
+    from : Fits s → firstOf (settingRows s) ≡ 0
+    from h =
+        first-zero (settingRows s) refl .1
+        (good-block _ .1 (h .block), (good-ports _ .1 (h .some-port, h .few-ports), (good-base _ _ .1 (h .aligned, h .low-base), (good-area _ _ _ .1 (h .one-area), (good-end _ _ _ .1 (h .inside), tt)))))
+
+-- a setup that is not refused
+pub setup-iff : (s : Setting) → (refusal (ofSetup s) ≡ 0) ↔ Fits s
+setup-iff s = (λ e. fits-iff s .0 (sym (setup-refusal s) ∙ e), λ h. setup-refusal s ∙ fits-iff s .1 h)
+
+-- ---- the record
+
+-- the test of row 6 is false exactly where the record is sound
+pub unsound-iff : (u : Mux) → (unsound u ≡ false) ↔ Sound u
+unfolding unsound
+unsound-iff u = (to, from)
+  where
+    to : (not (eqb (firstOf (settingRows (u .setting))) 0) || (leb (u .setting .ports) (u .pos) || Interrupt.unsound (u .irq))) ≡ false → Sound u
+    to e =
+        let p = or-false (not (eqb (firstOf (settingRows (u .setting))) 0)) _ e in
+        let q = or-false (leb (u .setting .ports) (u .pos)) _ (p .1) in
+        record { setting = fits-iff (u .setting) .0 (eqb-true _ _ (not-false _ (p .0))); position = leb-false _ _ (q .0); irq = q .1 }
+
+    from : Sound u → (not (eqb (firstOf (settingRows (u .setting))) 0) || (leb (u .setting .ports) (u .pos) || Interrupt.unsound (u .irq))) ≡ false
+    from h = both-false _ _ (ap not (eq-eqb _ _ (fits-iff (u .setting) .1 (h .setting)))) (both-false _ _ (lt-leb _ _ (h .position)) (h .irq))
+
+-- ---- refusal 0 of each kind of call
+
+-- a call on the record: refused exactly where the record is unsound
+pub sound-iff : (u : Mux) → (refusal (ofUnit u) ≡ 0) ↔ Sound u
+unfolding refusal tableOf rowsOf callRows asked
+sound-iff u =
+    let z = first-zero (callRows (ofUnit u)) refl in
+    (λ e. unsound-iff u .0 (z .0 e .0), λ h. z .1 (unsound-iff u .1 h, (refl, (refl, (refl, (refl, tt))))))
+
+-- a call on a port: the record is sound, and the port is one of its own
+pub port-iff : (u : Mux) (p : ℕ) → (refusal (ofPort u p) ≡ 0) ↔ (Sound u × (p < u .setting .ports))
+unfolding refusal tableOf rowsOf callRows asked
+port-iff u p =
+    let z = first-zero (callRows (ofPort u p)) refl in
+    (λ e. let r = z .0 e in (unsound-iff u .0 (r .0), leb-false _ _ (r .1 .1 .0)), λ h. z .1 (unsound-iff u .1 (h .0), (refl, (lt-leb _ _ (h .1), (refl, (refl, tt))))))
+
+-- an inspection: the record is sound, and the memory has 32,768 words
+pub inspection-iff : (u : Mux) (m : List ℕ) → (refusal (ofInspection u m) ≡ 0) ↔ (Sound u × (length m ≡ WORDS))
+unfolding refusal tableOf rowsOf callRows asked
+inspection-iff u m =
+    let z = first-zero (callRows (ofInspection u m)) refl in
+    (λ e. let r = z .0 e in (unsound-iff u .0 (r .0), eqb-true _ _ (not-false _ (r .1 .0))), λ h. z .1 (unsound-iff u .1 (h .0), (ap not (eq-eqb _ _ (h .1)), (refl, (refl, (refl, tt))))))
+
+-- a sweep: as an inspection, with at most 4,096 inspections and a list place for each
+pub record SweepTaken (u : Mux) (m : List ℕ) (n : ℕ) (xs : List ℕ) : Type 0 where
+  pub sound : Sound u
+  pub words : length m ≡ WORDS
+  pub few : n ≤ MOST-INSPECTIONS
+  pub places : n ≤ length xs
+
+pub sweep-iff : (u : Mux) (m : List ℕ) (n : ℕ) (xs : List ℕ) → (refusal (ofSweep u m n xs) ≡ 0) ↔ SweepTaken u m n xs
+unfolding refusal tableOf rowsOf callRows asked
+sweep-iff u m n xs =
+    let z = first-zero (callRows (ofSweep u m n xs)) refl in (
+      λ e. let r = z .0 e in
+          record {
+            sound = unsound-iff u .0 (r .0);
+            words = eqb-true _ _ (not-false _ (r .1 .0));
+            few = ltb-false _ _ (r .1 .1 .1 .0);
+            places = ltb-false _ _ (r .1 .1 .1 .1 .0);
+          },
+      λ h. z .1 (unsound-iff u .1 (h .sound), (ap not (eq-eqb _ _ (h .words)), (refl, (le-ltb _ _ (h .few), (le-ltb _ _ (h .places), tt))))),
+    )
+
+-- ---- the one law for every change of a record
+
+-- what keeps the setting, has its position below P and a sound interrupt side is as sound as it was
+pub sound-with : (u v : Mux) → v .setting ≡ u .setting → v .pos < v .setting .ports → (Interrupt.unsound (u .irq) ≡ false → Interrupt.unsound (v .irq) ≡ false) → Sound u → Sound v
+sound-with u v e h i s = record { setting = rw e (s .setting); position = h; irq = i (s .irq) }
+
+-- a fresh unit is sound
+pub fresh-sound : (s : Setting) → refusal (ofSetup s) ≡ 0 → Sound (fresh s)
+fresh-sound s e = let f = setup-iff s .0 e in record { setting = f; position = f .some-port; irq = Irq.fresh-sound }
+
+-- the record of zeros is unsound
+pub zeros-unsound : Sound noMux → ⊥
+zeros-unsound s = let h : 0 < 0 = s .position in omega arith
+
+-- ---- where a port's control block lies
+
+-- a block has eight words at least, and thirty-two at most
+pub block-bounds : (b : ℕ) → IsBlock b → (8 ≤ b) × (b ≤ 32)
+block-bounds b (eight e) = omega arith
+block-bounds b (sixteen e) = omega arith
+block-bounds b (thirty-two e) = omega arith
+
+-- an area of at most 128 blocks of at most 32 words has at most 4,096 words
+pub area-most : (b n : ℕ) → b ≤ 32 → n ≤ 128 → n * b ≤ 4096
+area-most b n p q = mul-le-mul q p
+
+-- every port of a setting that fits has eight words of control block in the memory
+pub block-inside : (s : Setting) (p : ℕ) → Fits s → p < s .ports → blockAt s p + 8 ≤ 32768
+unfolding blockAt
+block-inside s p f h =
+    omega (arith, mul-le-mul-right (s .block) h, f .inside, block-bounds (s .block) (f .block))
+
+-- a port number that is not refused is a place of the record's array
+pub port-below : (u : Mux) (p : ℕ) → refusal (ofPort u p) ≡ 0 → p < 128
+port-below u p e =
+    let h = port-iff u p .0 e in
+    omega (arith, h .0 .setting .few-ports, h .1)
