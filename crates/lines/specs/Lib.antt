@@ -1,5 +1,5 @@
 -- What the lines do: what the contracts of this crate cite.
---   Lines   arrival, transmitter empty, Device Status, of a port and as calls
---   Laws    what each call keeps, and the mark on a replacement
+--   Lines   a signal of a line at its port, and as a call
+-- What follows from it stands in laws/.
 pub mod Lines
-pub mod Laws
+pub mod laws

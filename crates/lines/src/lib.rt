@@ -1,16 +1,19 @@
-// What the lines do: a character arrives, a transmitter runs empty, a Device Status line changes.
-use unit::Character;
-use unit::Mux;
-use unit::Port;
-use unit::Reply;
-use unit::accepted;
-use unit::port_at;
+// What the lines do: a character arrives, a transmitter runs empty, a Device Status line changes. One call for all three, for they are refused alike.
+pub mod signal;
+
+use crate::signal::Signal;
+use unit::mux::Character;
+use unit::mux::Mux;
+use unit::mux::Port;
+use unit::mux::port_at;
+use unit::mux::with_port;
 use unit::refusal::port_code;
-use unit::refused;
-use unit::with_port;
+use unit::reply::Replied;
+use unit::reply::accepted;
+use unit::reply::refused;
 use words::length::cut;
 ghost use mathlib.Core.Path.{_≡_};
-ghost use Rattle.lines.specs.Lines.{arrivedPort, emptiedPort, statusPort, arrival, transmitted, deviceStatus};
+ghost use Rattle.lines.specs.Lines.{arrivedPort, emptiedPort, statusPort, signalled, line};
 
 // The port with the character held, cut to its length; one that replaces a held one carries the overload mark.
 fn arrived_port(q: Port, c: u8, parity: bool, brk: bool) -> Port
@@ -42,42 +45,28 @@ fn status_port(q: Port, level: bool) -> Port
     ensures { λ r. ⌜ r ≡ statusPort q level ⌝ }
 {
     let mut r = q;
-    r.line = level;
+    r.devstatus = level;
     r
 }
 
-// A character arrives at port p with a parity mark and a break mark.
-pub fn arrival(u: Mux, p: u32, c: u8, parity: bool, brk: bool) -> Reply
-    ensures { λ r. ⌜ r ≡ arrival u p c parity brk ⌝ }
+// The port after the signal.
+fn signalled(q: Port, e: Signal) -> Port
+    ensures { λ r. ⌜ r ≡ signalled q e ⌝ }
 {
-    let code = port_code(u, p);
-    if code != 0 {
-        return refused(code, u);
+    match e {
+        Signal::Arrival { c, parity, brk } => arrived_port(q, c, parity, brk),
+        Signal::TransmitterEmpty => emptied_port(q),
+        Signal::DeviceStatus { level } => status_port(q, level),
     }
-    accepted(
-        0,
-        with_port(u, p, arrived_port(port_at(u, p), c, parity, brk)),
-    )
 }
 
-// "Transmitter empty" at port p.
-pub fn transmitted(u: Mux, p: u32) -> Reply
-    ensures { λ r. ⌜ r ≡ transmitted u p ⌝ }
+// A signal at port p. It is taken in a stopped unit as well.
+pub fn line(u: Mux, p: u32, e: Signal) -> Replied
+    ensures { λ r. ⌜ r ≡ line u p e ⌝ }
 {
     let code = port_code(u, p);
     if code != 0 {
         return refused(code, u);
     }
-    accepted(0, with_port(u, p, emptied_port(port_at(u, p))))
-}
-
-// A Device Status change at port p.
-pub fn device_status(u: Mux, p: u32, level: bool) -> Reply
-    ensures { λ r. ⌜ r ≡ deviceStatus u p level ⌝ }
-{
-    let code = port_code(u, p);
-    if code != 0 {
-        return refused(code, u);
-    }
-    accepted(0, with_port(u, p, status_port(port_at(u, p), level)))
+    accepted(0, with_port(u, p, signalled(port_at(u, p), e)))
 }

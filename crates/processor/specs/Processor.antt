@@ -1,6 +1,10 @@
 -- What the processor does (document 01, of that name; 001, 5).
 --   resetPort, resetUnit   reset
---   reset .. tick          the calls, each refusing an unsound record
+--   switched               the other orders change only switches and the interrupt side
+--   valueOf, after         what each order returns, and the record after it
+--   order                  the call, which refuses an unsound record
+--   stops                  the orders that stop a unit
+-- Not here: what START, DIA, a tick and a reset do inside the interrupt side, in interrupt, Interrupt; what follows, in laws/Processor.
 -- Assumes nothing.
 use mathlib.Core.Bool.{Bool, true, false}
 use mathlib.Core.List.{map}
@@ -9,79 +13,79 @@ use Rattle.ground.specs.Choose.{pick}
 use Rattle.words.specs.Field.{put}
 use Rattle.words.specs.Codes.{SPEED}
 use Rattle.interrupt.specs.declared.Irq.{Irq}
-use Rattle.interrupt.specs.Interrupt.{calm, started, ticked, shown}
-use Rattle.unit.specs.declared.Port.{Port}
-use Rattle.unit.specs.declared.Mux.{Mux}
-use Rattle.unit.specs.declared.Reply.{Reply}
+use Rattle.interrupt.specs.Interrupt as Interrupt
+use Rattle.unit.specs.declared.mux.Port.{Port}
+use Rattle.unit.specs.declared.mux.Mux.{Mux}
+use Rattle.unit.specs.declared.reply.Replied.{Replied}
 use Rattle.unit.specs.Record.{noCharacter}
-use Rattle.unit.specs.Refusals.{refusal, ofUnit, accepted, guarded}
+use Rattle.unit.specs.Reply.{accepted, guarded}
+use Rattle.unit.specs.Refusals.{refusal, ofUnit}
+use Rattle.processor.specs.declared.orders.Order.{Order}
+use Rattle.processor.specs.declared.orders.Order.the-variants.{Reset, Iopls, Start, Doc, Dob, Dia, Dias, Tick}
 
 -- held character dropped, transmitter empty, Device Control 1, speed bits 000; the other control bits and the Device Status line kept
 unfoldable pub resetPort : Port → Port
 resetPort q =
-    record
-    { held = false; ch = noCharacter; empty = true; control = put SPEED 0 (q .control); level = true; line = q .line }
-
--- the record with other switches and another interrupt side
-abbrev pub switched : Mux → Bool → Bool → Irq → Mux
-switched u runs clock irq =
     record {
-      block = u .block;
-      ports = u .ports;
-      base = u .base;
-      pos = u .pos;
-      runs = runs;
-      clock = clock;
-      irq = irq;
-      port = u .port;
+      held = false;
+      ch = noCharacter;
+      empty = true;
+      control = put SPEED 0 (q .control);
+      devcontrol = true;
+      devstatus = q .devstatus;
     }
 
 -- unit and clock off, flag and status 0, position 0, every port reset
 abbrev pub resetUnit : Mux → Mux
 resetUnit u =
     record {
-      block = u .block;
-      ports = u .ports;
-      base = u .base;
+      setting = u .setting;
       pos = 0;
       runs = false;
       clock = false;
-      irq = calm;
+      irq = Interrupt.cleared (u .irq);
       port = map resetPort (u .port);
     }
 
--- a call of the processor's: its further result and the record after it
-unfoldable pub order : Mux → ℕ → Mux → Reply
-order u v after = guarded (refusal (ofUnit u)) u (accepted v after)
+-- the record with other switches and another interrupt side: position and held characters kept
+abbrev pub switched : Mux → Bool → Bool → Irq → Mux
+switched u runs clock irq =
+    record { setting = u .setting; pos = u .pos; runs = runs; clock = clock; irq = irq; port = u .port }
 
--- IORST or CLEAR
-abbrev pub reset : Mux → Reply
-reset u = order u 0 (resetUnit u)
+-- the further result: DIA returns the status word; DIAS returns it, as it was before its START
+abbrev pub valueOf : Order → Irq → ℕ
+valueOf Reset i = 0
+valueOf Iopls i = 0
+valueOf Start i = 0
+valueOf Doc i = 0
+valueOf Dob i = 0
+valueOf Dia i = Interrupt.shown i
+valueOf Dias i = Interrupt.shown i
+valueOf Tick i = 0
 
--- IOPLS: clock on
-abbrev pub iopls : Mux → Reply
-iopls u = order u 0 (switched u (u .runs) true (u .irq))
+-- the record after the order. IOPLS: clock on. START, and DIAS when it has read: flag and status 0. DOC: the unit runs. DOB: it stops.
+-- A tick: with the clock on status bit 0 and the flag, with it off nothing
+unfoldable pub after : Order → Mux → Mux
+after Reset u = resetUnit u
+after Iopls u = switched u (u .runs) true (u .irq)
+after Start u = switched u (u .runs) (u .clock) (Interrupt.started (u .irq))
+after Doc u = switched u true (u .clock) (u .irq)
+after Dob u = switched u false (u .clock) (u .irq)
+after Dia u = u
+after Dias u = switched u (u .runs) (u .clock) (Interrupt.started (u .irq))
+after Tick u = switched u (u .runs) (u .clock) (pick (u .clock) (Interrupt.ticked (u .irq)) (u .irq))
 
--- START: flag and status 0
-abbrev pub start : Mux → Reply
-start u = order u 0 (switched u (u .runs) (u .clock) (started (u .irq)))
+-- an order of the processor's
+unfoldable pub order : Mux → Order → Replied
+order u o = guarded (refusal (ofUnit u)) u (accepted (valueOf o (u .irq)) (after o u))
 
--- DOC: the unit runs
-abbrev pub doc : Mux → Reply
-doc u = order u 0 (switched u true (u .clock) (u .irq))
-
--- DOB: the unit stops
-abbrev pub dob : Mux → Reply
-dob u = order u 0 (switched u false (u .clock) (u .irq))
-
--- DIA: the status word
-abbrev pub dia : Mux → Reply
-dia u = order u (shown (u .irq)) u
-
--- DIAS: the status word, then START
-abbrev pub dias : Mux → Reply
-dias u = order u (shown (u .irq)) (switched u (u .runs) (u .clock) (started (u .irq)))
-
--- a tick: with the clock on status bit 0 and the flag, with it off nothing
-abbrev pub tick : Mux → Reply
-tick u = order u 0 (switched u (u .runs) (u .clock) (pick (u .clock) (ticked (u .irq)) (u .irq)))
+-- the orders that stop a unit that runs
+abbrev pub stops : Order → Bool
+stops Reset = true
+stops Iopls = false
+stops Start = false
+stops Doc = false
+stops Dob = true
+stops Dia = false
+stops Dias = false
+stops Tick = false

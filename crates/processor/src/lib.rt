@@ -1,19 +1,22 @@
-// What the processor does: reset, IOPLS, START, DOC, DOB, DIA, DIAS, and the 10 ms tick.
+// What the processor does: reset, IOPLS, START, DOC, DOB, DIA, DIAS, and the 10 ms tick. One call for all of them, for they are refused alike.
+pub mod orders;
+
+use crate::orders::Order;
 use interrupt::Irq;
-use unit::Mux;
-use unit::Port;
-use unit::Reply;
-use unit::accepted;
+use unit::mux::Mux;
+use unit::mux::Port;
 use unit::refusal::sound_code;
-use unit::refused;
+use unit::reply::Replied;
+use unit::reply::accepted;
+use unit::reply::refused;
 use unit::setup::no_character;
 use words::codes::SPEED;
 use words::field::put;
 ghost use mathlib.Core.Path.{_≡_};
 ghost use mathlib.Core.List.{map};
-ghost use Rattle.processor.specs.Processor.{resetPort, switched, resetUnit, order, reset, iopls, start, doc, dob, dia, dias, tick};
 ghost use Rattle.ground.specs.Choose.{pick};
 ghost use Rattle.interrupt.specs.Interrupt.{ticked};
+ghost use Rattle.processor.specs.Processor.{resetPort, switched, resetUnit, valueOf, after, order};
 
 // The port after a reset.
 fn reset_port(q: Port) -> Port
@@ -24,11 +27,11 @@ fn reset_port(q: Port) -> Port
     r.ch = no_character();
     r.empty = true;
     r.control = put(q.control as u16, SPEED, 0) as u8;
-    r.level = true;
+    r.devcontrol = true;
     r
 }
 
-// Every port of the array after a reset.
+// Every port of the array after a reset, those past P as well: none of them can be seen.
 fn reset_ports(t: [Port; 128]) -> [Port; 128]
     ensures { λ r. ⌜ r ≡ map resetPort t ⌝ }
 {
@@ -57,81 +60,12 @@ fn reset_unit(u: Mux) -> Mux
     ensures { λ r. ⌜ r ≡ resetUnit u ⌝ }
 {
     let t = u.port;
-    let mut v = switched(u, false, false, interrupt::calm());
+    let i = u.irq;
+    let mut v = switched(u, false, false, interrupt::cleared(i));
     v.pos = 0;
     let p = reset_ports(t);
     v.port = p;
     v
-}
-
-// A call of the processor's: refused for an unsound record, else its further result and the record after it.
-fn order(u: Mux, value: u16, after: Mux) -> Reply
-    ensures { λ r. ⌜ r ≡ order u value after ⌝ }
-{
-    let code = sound_code(u);
-    if code != 0 {
-        return refused(code, u);
-    }
-    accepted(value, after)
-}
-
-// IORST or CLEAR.
-pub fn reset(u: Mux) -> Reply
-    ensures { λ r. ⌜ r ≡ reset u ⌝ }
-{
-    order(u, 0, reset_unit(u))
-}
-
-// IOPLS: clock on.
-pub fn iopls(u: Mux) -> Reply
-    ensures { λ r. ⌜ r ≡ iopls u ⌝ }
-{
-    let i = u.irq;
-    order(u, 0, switched(u, u.runs, true, i))
-}
-
-// START: flag and status 0.
-pub fn start(u: Mux) -> Reply
-    ensures { λ r. ⌜ r ≡ start u ⌝ }
-{
-    let i = u.irq;
-    order(u, 0, switched(u, u.runs, u.clock, interrupt::start(i)))
-}
-
-// DOC: the unit runs.
-pub fn doc(u: Mux) -> Reply
-    ensures { λ r. ⌜ r ≡ doc u ⌝ }
-{
-    let i = u.irq;
-    order(u, 0, switched(u, true, u.clock, i))
-}
-
-// DOB: the unit stops.
-pub fn dob(u: Mux) -> Reply
-    ensures { λ r. ⌜ r ≡ dob u ⌝ }
-{
-    let i = u.irq;
-    order(u, 0, switched(u, false, u.clock, i))
-}
-
-// DIA: the status word.
-pub fn dia(u: Mux) -> Reply
-    ensures { λ r. ⌜ r ≡ dia u ⌝ }
-{
-    let i = u.irq;
-    order(u, interrupt::dia(i), u)
-}
-
-// DIAS: the status word, then START.
-pub fn dias(u: Mux) -> Reply
-    ensures { λ r. ⌜ r ≡ dias u ⌝ }
-{
-    let i = u.irq;
-    order(
-        u,
-        interrupt::dia(i),
-        switched(u, u.runs, u.clock, interrupt::start(i)),
-    )
 }
 
 // The interrupt side after a tick, with the clock on or off.
@@ -144,10 +78,47 @@ fn clocked(clock: bool, i: Irq) -> Irq
     i
 }
 
-// The 10 ms tick.
-pub fn tick(u: Mux) -> Reply
-    ensures { λ r. ⌜ r ≡ tick u ⌝ }
+// What the order returns beside its number: DIA and DIAS the status word as they find it, the others 0.
+fn value_of(o: Order, i: Irq) -> u16
+    ensures { λ r. ⌜ r ≡ valueOf o i ⌝ }
+{
+    match o {
+        Order::Reset => 0,
+        Order::Iopls => 0,
+        Order::Start => 0,
+        Order::Doc => 0,
+        Order::Dob => 0,
+        Order::Dia => interrupt::dia(i),
+        Order::Dias => interrupt::dia(i),
+        Order::Tick => 0,
+    }
+}
+
+// The record after the order.
+fn after(u: Mux, o: Order) -> Mux
+    ensures { λ r. ⌜ r ≡ after o u ⌝ }
 {
     let i = u.irq;
-    order(u, 0, switched(u, u.runs, u.clock, clocked(u.clock, i)))
+    match o {
+        Order::Reset => reset_unit(u),
+        Order::Iopls => switched(u, u.runs, true, i),
+        Order::Start => switched(u, u.runs, u.clock, interrupt::start(i)),
+        Order::Doc => switched(u, true, u.clock, i),
+        Order::Dob => switched(u, false, u.clock, i),
+        Order::Dia => u,
+        Order::Dias => switched(u, u.runs, u.clock, interrupt::start(i)),
+        Order::Tick => switched(u, u.runs, u.clock, clocked(u.clock, i)),
+    }
+}
+
+// An order: refused for an unsound record.
+pub fn order(u: Mux, o: Order) -> Replied
+    ensures { λ r. ⌜ r ≡ order u o ⌝ }
+{
+    let code = sound_code(u);
+    if code != 0 {
+        return refused(code, u);
+    }
+    let i = u.irq;
+    accepted(value_of(o, i), after(u, o))
 }

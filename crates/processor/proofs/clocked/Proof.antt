@@ -1,11 +1,8 @@
 -- `processor::clocked` meets its contract, case by case.
 use borrow.Author.Needs.{needs}
-use Rattle.ground.specs.Choose.{pick}
 use Rattle.processor.proofs.clocked.Statement.{statement}
+use Rattle.ground.specs.Choose.{pick}
 use Rattle.processor.proofs.clocked.Tie as tie
-
-tick-requires : tie.Need-tick-requires
-tick-requires c κs = search needs
 
 returns : tie.Need-returns
 unfolding pick
@@ -16,4 +13,4 @@ unfolding pick
 returns-2 c = simp (c .if1 .left)
 
 pub clocked-spec : {M : Type 1} → statement M
-clocked-spec = tie.close (tie.spec tick-requires returns returns-2)
+clocked-spec = tie.close (tie.spec (λ c κs. search needs) returns returns-2)

@@ -2,19 +2,10 @@
 use native.Mathlib.Omega.{arith}
 use borrow.Author.Needs.{needs}
 use Rattle.processor.proofs.reset_port.Statement.{statement}
-use Rattle.processor.specs.Processor.{resetPort}
 use Rattle.words.specs.Codes.{SPEED}
-use Rattle.words.specs.Field.{put-zero}
+use Rattle.words.specs.laws.Field.{put-zero}
+use Rattle.processor.specs.Processor.{resetPort}
 use Rattle.processor.proofs.reset_port.Tie as tie
-
-no-character-requires : tie.Need-no-character-requires
-no-character-requires c κs = search needs
-
-cast-put : tie.Need-cast-put
-cast-put c = search needs
-
-put-requires : tie.Need-put-requires
-put-requires c κs = search needs
 
 cast-r : tie.Need-cast-r
 cast-r c = omega (arith, c .put .ensures, put-zero SPEED (c .before .before .before .args .q .control), c .before .struct-known .given)
@@ -24,4 +15,7 @@ unfolding resetPort
 returns c = rw (c .put .ensures, c .before .before .no-character .ensures)
 
 pub reset-port-spec : {M : Type 1} → statement M
-reset-port-spec = tie.close (tie.spec no-character-requires cast-put put-requires cast-r returns)
+reset-port-spec =
+    tie.close
+    (tie.spec
+    (λ c κs. search needs) (λ c. search needs) (λ c κs. search needs) cast-r returns)

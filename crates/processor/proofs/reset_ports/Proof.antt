@@ -5,7 +5,7 @@ use native.Mathlib.Numerals.{add-one}
 use native.Mathlib.Omega.{arith}
 use lib.ListN.{length}
 use borrow.Author.Needs.{needs}
-use Rattle.ground.specs.Arrays.{mapTo, map-none, map-one, map-all}
+use Rattle.ground.specs.laws.Arrays.{mapTo, map-none, map-one, map-all}
 use Rattle.processor.proofs.reset_ports.Statement.{statement}
 use Rattle.processor.specs.Processor.{resetPort}
 use Rattle.unit.specs.Record.{noPort}
@@ -19,27 +19,6 @@ abbrev μ-loop : tie.MeasureT-loop
 
 loop-holds : tie.Need-loop-holds Inv-loop μ-loop
 loop-holds c = (search needs, map-none resetPort (c .args .t), search needs)
-
-mul-reset-port : tie.Need-mul-reset-port Inv-loop μ-loop
-mul-reset-port c = search needs
-
-array-copy-out-reset-port : tie.Need-array-copy-out-reset-port Inv-loop μ-loop
-array-copy-out-reset-port c = search needs
-
-reset-port-requires : tie.Need-reset-port-requires Inv-loop μ-loop
-reset-port-requires c κs = search needs
-
-mul-r : tie.Need-mul-r Inv-loop μ-loop
-mul-r c = search needs
-
-array-set-from-r : tie.Need-array-set-from-r Inv-loop μ-loop
-array-set-from-r c = search needs
-
-add-i : tie.Need-add-i Inv-loop μ-loop
-add-i c = search needs
-
-loop-less : tie.Need-loop-less Inv-loop μ-loop
-loop-less c = search needs
 
 loop-again : tie.Need-loop-again Inv-loop μ-loop
 loop-again c =
@@ -58,15 +37,5 @@ pub reset-ports-spec : {M : Type 1} → statement M
 reset-ports-spec =
     tie.close
     (tie.spec
-    Inv-loop
-    μ-loop
-    loop-holds
-    mul-reset-port
-    array-copy-out-reset-port
-    reset-port-requires
-    mul-r
-    array-set-from-r
-    add-i
-    loop-less
-    loop-again
-    returns)
+    Inv-loop μ-loop loop-holds (λ c. search needs) (λ c. search needs) (λ c κs. search needs) (λ c. search needs)
+    (λ c. search needs) (λ c. search needs) (λ c. search needs) loop-again returns)
