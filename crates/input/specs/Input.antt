@@ -3,6 +3,8 @@
 --   replacedICW, doneICW  the two ways in which ICW is written
 --   inputPlan             steps 1 to 6, a branch each
 --   inputService          ICW, IBP and LIB read first; IBP, the byte and ICW stored in that order
+-- Not here: the bits of ICW and what 7-bit ASCII mode does to a byte, in words' Codes; special codes, in words' Special; when a port is
+-- served, and the held character that is taken then, in scan; what follows, in laws/.
 -- Assumes nothing.
 use mathlib.Core.Bool.{Bool, true, false, not, _&&_, _||_}
 use mathlib.Core.List.{List}
@@ -11,33 +13,33 @@ use lib.Dec.{eqb}
 use lib.ListN.{getD}
 use Rattle.ground.specs.Choose.{pick, bit}
 use Rattle.words.specs.Field.{get, put}
-use Rattle.words.specs.Codes.{atICW, atIBP, atLIB, INDONE, INMO, inNone, inSingle, inEcho, SEVEN, FLAGS, flagNone, flagParity, flagOverload, flagBreak, UNECHOED, LATE, CHARACTER, storedByte, wordByte, echoedByte, unechoedByError, unechoedBySpecial, INHIBIT}
+use Rattle.words.specs.Codes.{atICW, atIBP, atLIB, INDONE, INMO, inNone, inSingle, inEcho, ASCII, FLAGS, flagNone, flagParity, flagOverload, flagBreak, NOT-ECHOED, SERVICE-OVERLOAD, CHARACTER, storedByte, wordByte, echoedByte, notEchoedByError, notEchoedBySpecial, PARITY-INHIBIT}
 use Rattle.words.specs.Pointer.{stepPtr, atEnd}
 use Rattle.words.specs.Byte.{wordIf, byteIf}
 use Rattle.words.specs.Special.{isSpecial}
-use Rattle.unit.specs.declared.Character.{Character}
-use Rattle.unit.specs.declared.Port.{Port}
-use Rattle.unit.specs.Record.{Serviced, serviced}
-use Rattle.input.specs.declared.Plan.{Plan}
+use Rattle.unit.specs.declared.mux.Character.{Character}
+use Rattle.unit.specs.declared.mux.Port.{Port}
+use Rattle.unit.specs.Reply.{Serviced, serviced}
+use Rattle.input.specs.declared.plan.Plan.{Plan}
 
 -- overload, else break, else parity (only if control bit 8 is 0), else none
 unfoldable pub errorCode : ℕ → Character → ℕ
 errorCode control ch =
     pick (ch .overload) flagOverload
-    (pick (ch .brk) flagBreak (pick (ch .parity && eqb (get INHIBIT control) 0) flagParity flagNone))
+    (pick (ch .brk) flagBreak (pick (ch .parity && eqb (get PARITY-INHIBIT control) 0) flagParity flagNone))
 
 -- 7-bit ASCII mode is on
-unfoldable pub seven : ℕ → Bool
-seven icw = eqb (get SEVEN icw) 1
+unfoldable pub ascii : ℕ → Bool
+ascii icw = eqb (get ASCII icw) 1
 
 -- ICW where INDONE was set: the character and its code replace those there, and bit 7 says that one was lost
 unfoldable pub replacedICW : ℕ → ℕ → ℕ → ℕ
-replacedICW icw code c = put CHARACTER (wordByte (seven icw) c) (put LATE 1 (put FLAGS code icw))
+replacedICW icw code c = put CHARACTER (wordByte (ascii icw) c) (put SERVICE-OVERLOAD 1 (put FLAGS code icw))
 
 -- ICW where the character is done: from the word as read, with bit 0, the code, the echo mark and bits 8 to 15
 unfoldable pub doneICW : ℕ → ℕ → ℕ → ℕ → ℕ
 doneICW icw code mark c =
-    put CHARACTER (wordByte (seven icw) c) (put UNECHOED mark (put FLAGS code (put INDONE 1 icw)))
+    put CHARACTER (wordByte (ascii icw) c) (put NOT-ECHOED mark (put FLAGS code (put INDONE 1 icw)))
 
 -- step 1: ICW is written, and nothing else
 unfoldable pub replacedPlan : ℕ → ℕ → ℕ → Plan
@@ -59,7 +61,7 @@ storedPlan icw c last echo empty =
     let busy = echo && not empty in
     record {
       store = true;
-      byte = storedByte (seven icw) c;
+      byte = storedByte (ascii icw) c;
       write = last || busy;
       icw = doneICW icw flagNone (bit busy) c;
       echo = echo && empty;
@@ -77,9 +79,9 @@ inputPlan icw code c last special empty =
     -- 3
     (pick (eqb (get INMO icw) inSingle) (donePlan icw code 0 c)
     -- 4
-    (pick (not (eqb code flagNone)) (donePlan icw code unechoedByError c)
+    (pick (not (eqb code flagNone)) (donePlan icw code notEchoedByError c)
     -- 5
-    (pick (seven icw && special) (donePlan icw code unechoedBySpecial c)
+    (pick (ascii icw && special) (donePlan icw code notEchoedBySpecial c)
     -- 6
     (storedPlan icw c last (eqb (get INMO icw) inEcho) empty)))))
 
@@ -101,9 +103,9 @@ inputService m a q =
     serviced
     (record {
       sent = plan .echo;
-      byte = pick (plan .echo) (echoedByte (seven icw) c) 0;
+      byte = pick (plan .echo) (echoedByte (ascii icw) c) 0;
       raised = plan .raised;
       control = q .control;
-      level = q .level;
+      devcontrol = q .devcontrol;
     })
     (carried plan a (stepPtr ibp) m)

@@ -1,54 +1,46 @@
 // The input service of a port: the words read first, a plan, and the stores in document 01's order.
 pub mod icw;
+pub mod plan;
 pub mod steps;
 
 use crate::icw::error_code;
+use crate::icw::is_ascii;
+use crate::plan::Plan;
 use crate::steps::input_plan;
-use unit::Effect;
-use unit::Port;
+use unit::effect::Effect;
+use unit::mux::Port;
 use words::ascii::echoed_byte;
 use words::byte::byte_if;
 use words::byte::word_if;
 use words::codes::IBP;
 use words::codes::ICW;
 use words::codes::LIB;
-use words::codes::SEVEN;
-use words::field::is_set;
 use words::pointer::at_end;
 use words::pointer::step_ptr;
 use words::special::is_special;
 ghost use mathlib.Core.Path.{_≡_};
-ghost use Prim.Native.Nat.{_+_, _≤_};
+ghost use Prim.Native.Nat.{_<_};
 ghost use lib.ListN.{length};
 ghost use Rattle.ground.specs.Choose.{pick};
-ghost use Rattle.unit.specs.Record.{serviced};
+ghost use Rattle.unit.specs.Reply.{serviced};
+ghost use Rattle.unit.specs.Refusals.{WORDS};
 ghost use Rattle.words.specs.Codes.{echoedByte};
-ghost use Rattle.input.specs.Input.{carried, inputService, seven};
+ghost use Rattle.input.specs.Input.{carried, inputService, ascii};
 
-// What an input service is to do: the byte stored and the pointer stepped or not, ICW written or not, an echo or not, an interrupt or not.
-pub struct Plan {
-    pub store: bool,
-    pub byte: u8,
-    pub write: bool,
-    pub icw: u16,
-    pub echo: bool,
-    pub raised: bool,
-}
-
-// The byte handed to the transmitter: the character as it is echoed, or 0 where there is no echo.
+// 0 where nothing is echoed, so that services that do the same answer the same.
 fn echoed(echo: bool, icw: u16, c: u8) -> u8
-    ensures { λ r. ⌜ r ≡ pick echo (echoedByte (seven icw) c) 0 ⌝ }
+    ensures { λ r. ⌜ r ≡ pick echo (echoedByte (ascii icw) c) 0 ⌝ }
 {
     if echo {
-        return echoed_byte(is_set(icw, SEVEN), c);
+        return echoed_byte(is_ascii(icw), c);
     }
     0
 }
 
-// The stores of a plan, in order: the pointer, the byte, ICW.
+// Document 01's order of stores: it settles what is left where a buffer lies on its own control words.
 fn carry(mem: &mut [u16], at: usize, next: u16, plan: Plan)
-    requires { ⌜ length (now mem) ≡ 32768 ⌝ }
-    requires { ⌜ at + 8 ≤ 32768 ⌝ }
+    requires { ⌜ length (now mem) ≡ WORDS ⌝ }
+    requires { ⌜ at < 32761 ⌝ }
     ensures { λ r. ⌜ now (mem .exit) ≡ carried plan at next (now (mem .entry)) ⌝ }
 {
     word_if(mem, plan.store, at + IBP, next);
@@ -56,10 +48,10 @@ fn carry(mem: &mut [u16], at: usize, next: u16, plan: Plan)
     word_if(mem, plan.write, at + ICW, plan.icw);
 }
 
-// The input service of the port q, whose control block starts at the word `at`. Only the crates above call it, with a block inside the memory.
+// The block starts at the word `at`; below 32761 its eight words lie in the memory, as `block_at` ensures.
 pub fn service(mem: &mut [u16], at: usize, q: Port) -> Effect
-    requires { ⌜ length (now mem) ≡ 32768 ⌝ }
-    requires { ⌜ at + 8 ≤ 32768 ⌝ }
+    requires { ⌜ length (now mem) ≡ WORDS ⌝ }
+    requires { ⌜ at < 32761 ⌝ }
     ensures { λ r. ⌜ serviced r (now (mem .exit)) ≡ inputService (now (mem .entry)) at q ⌝ }
 {
     let icw = mem[at + ICW];
@@ -80,6 +72,6 @@ pub fn service(mem: &mut [u16], at: usize, q: Port) -> Effect
         byte: echoed(plan.echo, icw, c),
         raised: plan.raised,
         control: q.control,
-        level: q.level,
+        devcontrol: q.devcontrol,
     }
 }

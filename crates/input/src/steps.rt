@@ -1,7 +1,8 @@
 // What is done with a character: the six steps of document 01, Input, as a plan.
-use crate::Plan;
 use crate::icw::done_icw;
+use crate::icw::is_ascii;
 use crate::icw::replaced_icw;
+use crate::plan::Plan;
 use words::ascii::stored_byte;
 use words::codes::FLAG_NONE;
 use words::codes::IN_ECHO;
@@ -9,9 +10,8 @@ use words::codes::IN_NONE;
 use words::codes::IN_SINGLE;
 use words::codes::INDONE;
 use words::codes::INMO;
-use words::codes::SEVEN;
-use words::codes::UNECHOED_BY_ERROR;
-use words::codes::UNECHOED_BY_SPECIAL;
+use words::codes::NOT_ECHOED_BY_ERROR;
+use words::codes::NOT_ECHOED_BY_SPECIAL;
 use words::field::bit;
 use words::field::get;
 use words::field::is_set;
@@ -19,7 +19,7 @@ ghost use mathlib.Core.Path.{_≡_};
 ghost use Prim.Native.Nat.{_<_};
 ghost use Rattle.input.specs.Input.{replacedPlan, droppedPlan, donePlan, storedPlan, inputPlan};
 
-// Step 1: ICW is written, and nothing else.
+// Step 1: no interrupt, for the host has had the one that came with INDONE.
 fn replaced_plan(icw: u16, code: u16, c: u8) -> Plan
     requires { ⌜ code < 4 ⌝ }
     ensures { λ r. ⌜ r ≡ replacedPlan icw code c ⌝ }
@@ -34,7 +34,7 @@ fn replaced_plan(icw: u16, code: u16, c: u8) -> Plan
     }
 }
 
-// Step 2: dropped.
+// Step 2: ICW is not written either, so nothing of the character is left.
 fn dropped_plan() -> Plan
     ensures { λ r. ⌜ r ≡ droppedPlan ⌝ }
 {
@@ -48,7 +48,7 @@ fn dropped_plan() -> Plan
     }
 }
 
-// Done, with no buffer store and no echo.
+// Steps 3 to 5: the host takes the character from ICW, so it is neither stored nor echoed.
 fn done_plan(icw: u16, code: u16, mark: u16, c: u8) -> Plan
     requires { ⌜ code < 4 ⌝ }
     requires { ⌜ mark < 2 ⌝ }
@@ -64,14 +64,14 @@ fn done_plan(icw: u16, code: u16, mark: u16, c: u8) -> Plan
     }
 }
 
-// Step 6: stored; done if it is the buffer's last byte or its echo finds the transmitter busy.
+// Step 6: a full buffer and an echo that finds the transmitter busy are done, for the host has to act on both.
 fn stored_plan(icw: u16, c: u8, last: bool, echo: bool, empty: bool) -> Plan
     ensures { λ r. ⌜ r ≡ storedPlan icw c last echo empty ⌝ }
 {
     let busy = echo & !empty;
     Plan {
         store: true,
-        byte: stored_byte(is_set(icw, SEVEN), c),
+        byte: stored_byte(is_ascii(icw), c),
         write: last | busy,
         icw: done_icw(icw, FLAG_NONE, bit(busy), c),
         echo: echo & empty,
@@ -79,7 +79,7 @@ fn stored_plan(icw: u16, c: u8, last: bool, echo: bool, empty: bool) -> Plan
     }
 }
 
-// The six steps in order.
+// The six steps in order: each asks only what those before it left open.
 pub fn input_plan(icw: u16, code: u16, c: u8, last: bool, special: bool, empty: bool) -> Plan
     requires { ⌜ code < 4 ⌝ }
     ensures { λ r. ⌜ r ≡ inputPlan icw code c last special empty ⌝ }
@@ -95,10 +95,10 @@ pub fn input_plan(icw: u16, code: u16, c: u8, last: bool, special: bool, empty: 
         return done_plan(icw, code, 0, c);
     }
     if code != FLAG_NONE {
-        return done_plan(icw, code, UNECHOED_BY_ERROR, c);
+        return done_plan(icw, code, NOT_ECHOED_BY_ERROR, c);
     }
-    if is_set(icw, SEVEN) & special {
-        return done_plan(icw, code, UNECHOED_BY_SPECIAL, c);
+    if is_ascii(icw) & special {
+        return done_plan(icw, code, NOT_ECHOED_BY_SPECIAL, c);
     }
     stored_plan(icw, c, last, mode == IN_ECHO, empty)
 }

@@ -1,13 +1,14 @@
 // The output service of a port: the words read first, a plan, and the stores in document 01's order.
 pub mod modes;
 pub mod ocw;
+pub mod plan;
 
 use crate::modes::output_plan;
 use crate::ocw::is_auto;
 use crate::ocw::is_done;
 use crate::ocw::written_ocw;
-use unit::Effect;
-use unit::Port;
+use unit::effect::Effect;
+use unit::mux::Port;
 use words::byte::fetch;
 use words::byte::word_if;
 use words::codes::LOB;
@@ -17,24 +18,16 @@ use words::pointer::at_end;
 use words::pointer::step_ptr;
 use words::special::is_special;
 ghost use mathlib.Core.Path.{_≡_};
-ghost use Prim.Native.Nat.{_+_, _≤_};
+ghost use Prim.Native.Nat.{_<_};
 ghost use lib.ListN.{length};
-ghost use Rattle.unit.specs.Record.{serviced};
+ghost use Rattle.unit.specs.Reply.{serviced};
+ghost use Rattle.unit.specs.Refusals.{WORDS};
 ghost use Rattle.output.specs.Output.{outputService};
 
-// What an output service is to do: a byte handed over or not, done or not, the control bits and the Device Control level after it.
-pub struct Plan {
-    pub sent: bool,
-    pub byte: u8,
-    pub done: bool,
-    pub control: u8,
-    pub level: bool,
-}
-
-// The output service of the port q, whose control block starts at the word `at`. Only the crates above call it, with a block inside the memory.
+// The block starts at the word `at`; below 32761 its eight words lie in the memory, as `block_at` ensures.
 pub fn service(mem: &mut [u16], at: usize, q: Port) -> Effect
-    requires { ⌜ length (now mem) ≡ 32768 ⌝ }
-    requires { ⌜ at + 8 ≤ 32768 ⌝ }
+    requires { ⌜ length (now mem) ≡ WORDS ⌝ }
+    requires { ⌜ at < 32761 ⌝ }
     ensures { λ r. ⌜ serviced r (now (mem .exit)) ≡ outputService (now (mem .entry)) at q ⌝ }
 {
     let ocw = mem[at + OCW];
@@ -45,13 +38,13 @@ pub fn service(mem: &mut [u16], at: usize, q: Port) -> Effect
     // Read in every mode; only the automatic plan uses it.
     let fetched = fetch(mem, next);
     let plan = output_plan(ocw, q, fetched, at_end(obp, lob), is_special(fetched));
-    let done = is_done(ocw, q.line, plan.done);
-    mem[at + OCW] = written_ocw(ocw, q.line, done);
+    let done = is_done(ocw, q.devstatus, plan.done);
+    mem[at + OCW] = written_ocw(ocw, q.devstatus, done);
     Effect {
         sent: plan.sent,
         byte: plan.byte,
         raised: done,
         control: plan.control,
-        level: plan.level,
+        devcontrol: plan.devcontrol,
     }
 }

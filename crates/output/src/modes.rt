@@ -1,19 +1,20 @@
 // What is done with a port whose transmitter is empty: OUTDONE and the four modes of document 01, Output, as a plan.
-use crate::Plan;
 use crate::ocw::out_done;
-use unit::Port;
+use crate::plan::Plan;
+use unit::mux::Port;
 use words::codes::CHARACTER;
+use words::codes::DEVICE_CONTROL;
 use words::codes::OUT_AUTO;
 use words::codes::OUT_CONTROL;
 use words::codes::OUT_NONE;
 use words::codes::OUTMO;
-use words::codes::REQUEST;
+use words::codes::SPECIAL_REQUEST;
 use words::field::get;
 use words::field::is_set;
 ghost use mathlib.Core.Path.{_≡_};
 ghost use Rattle.output.specs.Output.{idlePlan, autoPlan, controlPlan, singlePlan, outputPlan};
 
-// Nothing handed over, the port as it was.
+// OUTDONE set, or mode 00: the port keeps what it has, and its transmitter stays empty.
 fn idle_plan(q: Port) -> Plan
     ensures { λ r. ⌜ r ≡ idlePlan q ⌝ }
 {
@@ -22,24 +23,24 @@ fn idle_plan(q: Port) -> Plan
         byte: 0,
         done: false,
         control: q.control,
-        level: q.level,
+        devcontrol: q.devcontrol,
     }
 }
 
-// 01: the fetched byte; done if it is the buffer's last, or bit 3 is 1 and the byte is special.
+// 01: done if the byte is the buffer's last, or bit 3 asks for an interrupt at a special one.
 fn auto_plan(ocw: u16, q: Port, fetched: u8, last: bool, special: bool) -> Plan
     ensures { λ r. ⌜ r ≡ autoPlan ocw q fetched last special ⌝ }
 {
     Plan {
         sent: true,
         byte: fetched,
-        done: last | (is_set(ocw, REQUEST) & special),
+        done: last | (is_set(ocw, SPECIAL_REQUEST) & special),
         control: q.control,
-        level: q.level,
+        devcontrol: q.devcontrol,
     }
 }
 
-// 10: bit 3 to Device Control, bits 8 to 15 to the control bits; done.
+// 10: the bits go to the port and not to the line, so the transmitter stays empty.
 fn control_plan(ocw: u16) -> Plan
     ensures { λ r. ⌜ r ≡ controlPlan ocw ⌝ }
 {
@@ -48,11 +49,11 @@ fn control_plan(ocw: u16) -> Plan
         byte: 0,
         done: true,
         control: get(ocw, CHARACTER) as u8,
-        level: is_set(ocw, REQUEST),
+        devcontrol: is_set(ocw, DEVICE_CONTROL),
     }
 }
 
-// 11: bits 8 to 15 handed over; done.
+// 11: the byte stands in OCW itself, so each one is done.
 fn single_plan(ocw: u16, q: Port) -> Plan
     ensures { λ r. ⌜ r ≡ singlePlan ocw q ⌝ }
 {
@@ -61,11 +62,11 @@ fn single_plan(ocw: u16, q: Port) -> Plan
         byte: get(ocw, CHARACTER) as u8,
         done: true,
         control: q.control,
-        level: q.level,
+        devcontrol: q.devcontrol,
     }
 }
 
-// OUTDONE already set, then the four modes in order.
+// OUTDONE first: until the host clears it no mode counts.
 pub fn output_plan(ocw: u16, q: Port, fetched: u8, last: bool, special: bool) -> Plan
     ensures { λ r. ⌜ r ≡ outputPlan ocw q fetched last special ⌝ }
 {

@@ -1,10 +1,10 @@
 // What OCW says as it was read, and the word that is written last.
-use words::codes::CHANGED;
+use words::codes::DEVICE_STATUS;
 use words::codes::OUT_AUTO;
 use words::codes::OUTDONE;
 use words::codes::OUTMO;
-use words::codes::PREVIOUS;
-use words::codes::STATUS;
+use words::codes::PREVIOUS_STATUS;
+use words::codes::STATUS_CHANGED;
 use words::codes::UNUSED;
 use words::field::bit;
 use words::field::get;
@@ -12,20 +12,19 @@ use words::field::is_set;
 use words::field::put;
 ghost use mathlib.Core.Path.{_≡_};
 ghost use mathlib.Core.Bool.{not, _&&_, _||_};
-ghost use Prim.Native.Nat.{_<_};
-ghost use Rattle.ground.specs.Choose.{pick};
+ghost use Rattle.ground.specs.Choose.{pick, Below};
 ghost use Rattle.words.specs.Field.{get};
-ghost use Rattle.words.specs.Codes.{CHANGED};
+ghost use Rattle.words.specs.Codes.{STATUS-CHANGED};
 ghost use Rattle.output.specs.Output.{outDone, isAuto, differs, statusBits, becomesChanged, writtenOCW};
 
-// Whether OUTDONE is set.
+// One reading of OUTDONE, for the plan, the pointer and the word written.
 pub fn out_done(ocw: u16) -> bool
     ensures { λ r. ⌜ r ≡ outDone ocw ⌝ }
 {
     is_set(ocw, OUTDONE)
 }
 
-// Whether the service is an automatic output: OUTDONE clear and mode 01.
+// The one case in which OBP is stepped and written: OUTDONE clear and mode 01.
 pub fn is_auto(ocw: u16) -> bool
     ensures { λ r. ⌜ r ≡ isAuto ocw ⌝ }
 {
@@ -33,42 +32,42 @@ pub fn is_auto(ocw: u16) -> bool
     !done & (get(ocw, OUTMO) == OUT_AUTO)
 }
 
-// Whether the Device Status line differs from bit 4 as read.
+// The Device Status line against bit 4 as read: what OCW last had of it.
 fn differs(ocw: u16, line: bool) -> bool
     ensures { λ r. ⌜ r ≡ differs ocw line ⌝ }
 {
-    let same = get(ocw, STATUS) == bit(line);
+    let same = get(ocw, DEVICE_STATUS) == bit(line);
     !same
 }
 
-// Bit 7 as it is written: 1 where the line differs from bit 4 as read, else kept.
+// Bit 7 as it is written: a change sets it, and only the host clears it.
 fn changed_bit(ocw: u16, line: bool) -> u16
-    ensures { λ r. ⌜ (r ≡ pick (differs ocw line) 1 (get CHANGED ocw)) × (r < 2) ⌝ }
+    ensures { λ r. ⌜ Below 2 (pick (differs ocw line) 1 (get STATUS-CHANGED ocw)) r ⌝ }
 {
     if differs(ocw, line) {
         return 1;
     }
-    get(ocw, CHANGED)
+    get(ocw, STATUS_CHANGED)
 }
 
-// Bit 4 takes the line, bit 5 takes bit 4 as read, bit 7 is set where the two differ and else kept.
+// Bits 4 and 5 are the line now and as OCW last had it, so the host sees both sides of a change.
 fn status_bits(ocw: u16, line: bool) -> u16
     ensures { λ r. ⌜ r ≡ statusBits ocw line ⌝ }
 {
-    let status = put(ocw, STATUS, bit(line));
-    let previous = put(status, PREVIOUS, get(ocw, STATUS));
-    put(previous, CHANGED, changed_bit(ocw, line))
+    let status = put(ocw, DEVICE_STATUS, bit(line));
+    let previous = put(status, PREVIOUS_STATUS, get(ocw, DEVICE_STATUS));
+    put(previous, STATUS_CHANGED, changed_bit(ocw, line))
 }
 
-// Whether bit 7 becomes 1: 0 as read, 1 as written.
+// Bit 7 from 0 to 1: a change of the line that the host has not been told of.
 fn becomes_changed(ocw: u16, line: bool) -> bool
     ensures { λ r. ⌜ r ≡ becomesChanged ocw line ⌝ }
 {
-    let clear = get(ocw, CHANGED) == 0;
+    let clear = get(ocw, STATUS_CHANGED) == 0;
     clear & differs(ocw, line)
 }
 
-// Whether the service is done: OUTDONE was clear, and the plan is done or bit 7 becomes 1.
+// OUTDONE as read shuts out a second interrupt; else the plan or a change of the line makes it done.
 pub fn is_done(ocw: u16, line: bool, planned: bool) -> bool
     ensures { λ r. ⌜ r ≡ not (outDone ocw) && (planned || becomesChanged ocw line) ⌝ }
 {
@@ -76,7 +75,7 @@ pub fn is_done(ocw: u16, line: bool, planned: bool) -> bool
     !already & (planned | becomes_changed(ocw, line))
 }
 
-// OCW as it is written. OUTDONE already set: only the status bits. Else bit 6 is 0 and bit 0 says done.
+// OUTDONE already set: only the status bits, for the rest still waits for the host. Else bit 6 is 0 and bit 0 says done.
 pub fn written_ocw(ocw: u16, line: bool, done: bool) -> u16
     ensures { λ r. ⌜ r ≡ writtenOCW ocw line done ⌝ }
 {

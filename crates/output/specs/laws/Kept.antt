@@ -2,6 +2,7 @@
 --   kept-length    the memory keeps its length
 --   kept-word      every word but OCW and OBP is as it was
 --   kept-pointer   where the service is no automatic output, OBP is as it was too
+-- Not here: what OCW and OBP become, in Output itself; the port's own changes, in scan.
 -- Assumes nothing.
 use mathlib.Core.Path.{_≡_, _∙_, ap}
 use mathlib.Core.Bool.{Bool, false}
@@ -13,8 +14,9 @@ use lib.Seq.{getD-set-other}
 use Rattle.ground.specs.Choose.{pick}
 use Rattle.words.specs.Codes.{atOCW, atOBP}
 use Rattle.words.specs.Pointer.{stepPtr}
-use Rattle.words.specs.Byte.{wordIf, length-wordIf, other-word}
-use Rattle.unit.specs.declared.Port.{Port}
+use Rattle.words.specs.Byte.{wordIf}
+use Rattle.words.specs.laws.Byte.{length-wordIf, other-word}
+use Rattle.unit.specs.declared.mux.Port.{Port}
 use Rattle.output.specs.Output.{isAuto, outputService}
 
 -- the memory after the service

@@ -5,6 +5,7 @@
 --   Stored, ordinary     any other code is stored once, and ICW is left alone unless the character is done
 --   Replaced, replaced   a character that finds INDONE set replaces the one in ICW, and bit 7 says that one was lost
 --   glottal-stop-lost    so a glottal stop that the host did not take in time is lost, and the loss is marked
+-- Not here: every other word and byte of the memory, in Kept; which codes are special, in words' Special.
 -- Assumes nothing.
 use mathlib.Core.Path.{_≡_, _∙_, ap, sym}
 use mathlib.Core.Bool.{Bool, true, false, not, _&&_, _||_}
@@ -15,17 +16,21 @@ use native.Mathlib.Omega.{arith}
 use lib.Dec.{eqb, lit<}
 use lib.ListN.{length, getD, set}
 use lib.Seq.{getD-set-same, getD-set-other}
-use Rattle.ground.specs.Choose.{pick, pick-true, pick-false, bit}
+use Rattle.ground.specs.Choose.{pick, bit}
+use Rattle.ground.specs.laws.Rows.{pick-true, pick-false}
 use Rattle.words.specs.Field.{get}
-use Rattle.words.specs.Codes.{atICW, atIBP, atLIB, INDONE, INMO, inAuto, inEcho, SEVEN, FLAGS, flagNone, UNECHOED, LATE, CHARACTER, storedByte, wordByte, stored-fits, unechoedBySpecial}
+use Rattle.words.specs.Codes.{atICW, atIBP, atLIB, INDONE, INMO, inAuto, inEcho, ASCII, FLAGS, flagNone, NOT-ECHOED, SERVICE-OVERLOAD, CHARACTER, storedByte, wordByte, notEchoedBySpecial}
+use Rattle.words.specs.laws.Codes.{stored-fits}
 use Rattle.words.specs.Pointer.{atEnd}
-use Rattle.words.specs.Byte.{byteAt, wordIf, byteIf, length-wordIf, length-byteIf, other-word, other-word-of-byte, other-byte-of-word, read-word, read-byte}
+use Rattle.words.specs.Byte.{byteAt, wordIf, byteIf}
+use Rattle.words.specs.laws.Byte.{length-wordIf, length-byteIf, other-word, other-word-of-byte, other-byte-of-word, read-word, read-byte}
 use Rattle.words.specs.Special.{isSpecial}
-use Rattle.unit.specs.declared.Port.{Port}
-use Rattle.input.specs.declared.Plan.{Plan}
-use Rattle.input.specs.Input.{errorCode, seven, replacedICW, doneICW, replacedPlan, donePlan, storedPlan, inputPlan, carried, inputService}
-use Rattle.input.specs.Word.{code-fits, done-character, done-mark, done-flags, done-ascii, done-done, replaced-character, replaced-late, replaced-flags, replaced-done}
-use Rattle.input.specs.Frame.{after, nextOf, kept-length}
+use Rattle.unit.specs.declared.mux.Port.{Port}
+use Rattle.unit.specs.Refusals.{WORDS}
+use Rattle.input.specs.declared.plan.Plan.{Plan}
+use Rattle.input.specs.Input.{errorCode, ascii, replacedICW, doneICW, replacedPlan, donePlan, storedPlan, inputPlan, carried, inputService}
+use Rattle.input.specs.laws.Word.{code-fits, done-character, done-mark, done-flags, done-ascii, done-done, replaced-character, replaced-overload, replaced-flags, replaced-done}
+use Rattle.input.specs.laws.Kept.{after, nextOf, kept-length}
 
 -- ICW of the port whose block starts at the word a
 abbrev pub icwOf : List ℕ → ℕ → ℕ
@@ -45,8 +50,8 @@ codeOf q = errorCode (q .control) (q .ch)
 
 -- the host's memory with a whole block at the word a, and a held character that is a byte
 pub record Placed (m : List ℕ) (a : ℕ) (q : Port) : Type 0 where
-  pub words : length m ≡ 32768
-  pub inside : a + 8 ≤ 32768
+  pub words : length m ≡ WORDS
+  pub inside : a + 8 ≤ WORDS
   pub byte : q .ch .byte < 256
 
 -- 7-bit ASCII automatic mode, with echo or without, INDONE clear as read, and a character with no error
@@ -54,7 +59,7 @@ pub record Automatic (m : List ℕ) (a : ℕ) (q : Port) : Type 0 where
   pub placed : Placed m a q
   pub clear : get INDONE (icwOf m a) ≡ 0
   pub mode : (get INMO (icwOf m a) ≡ inAuto) ⊎ (get INMO (icwOf m a) ≡ inEcho)
-  pub ascii : get SEVEN (icwOf m a) ≡ 1
+  pub ascii : get ASCII (icwOf m a) ≡ 1
   pub no-error : codeOf q ≡ flagNone
 
 -- ---- the plan of such a character
@@ -64,7 +69,7 @@ planOf m a q = inputPlan (icwOf m a) (codeOf q) (q .ch .byte) (lastOf m a) (isSp
 
 -- step 5
 abbrev reportedPlan : List ℕ → ℕ → Port → Plan
-reportedPlan m a q = donePlan (icwOf m a) flagNone unechoedBySpecial (q .ch .byte)
+reportedPlan m a q = donePlan (icwOf m a) flagNone notEchoedBySpecial (q .ch .byte)
 
 -- step 6
 abbrev bufferedPlan : List ℕ → ℕ → Port → Plan
@@ -72,7 +77,7 @@ bufferedPlan m a q = storedPlan (icwOf m a) (q .ch .byte) (lastOf m a) (eqb (get
 
 -- steps 1 to 4 are passed
 automatic : (m : List ℕ) (a : ℕ) (q : Port) → Automatic m a q → planOf m a q ≡ pick (isSpecial (q .ch .byte)) (reportedPlan m a q) (bufferedPlan m a q)
-unfolding inputPlan seven pick
+unfolding inputPlan ascii pick
 automatic m a q h = by (h .mode)
   where
     by : (get INMO (icwOf m a) ≡ inAuto) ⊎ (get INMO (icwOf m a) ≡ inEcho) → planOf m a q ≡ pick (isSpecial (q .ch .byte)) (reportedPlan m a q) (bufferedPlan m a q)
@@ -80,8 +85,8 @@ automatic m a q h = by (h .mode)
     by (inr e) = simp (h .clear, e, h .ascii, h .no-error)
 
 -- the top bit becomes 1, in ICW and in the buffer
-top-bit : (icw c : ℕ) → get SEVEN icw ≡ 1 → (wordByte (seven icw) c ≡ 128 + c % 128) × (storedByte (seven icw) c ≡ 128 + c % 128)
-unfolding wordByte storedByte seven pick
+top-bit : (icw c : ℕ) → get ASCII icw ≡ 1 → (wordByte (ascii icw) c ≡ 128 + c % 128) × (storedByte (ascii icw) c ≡ 128 + c % 128)
+unfolding wordByte storedByte ascii pick
 top-bit icw c e = (rw e, rw e)
 
 -- ---- a service that writes ICW and no other word: ICW after it, and every other word
@@ -102,8 +107,8 @@ pub record Reported (m : List ℕ) (a : ℕ) (q : Port) (b : ℕ) : Type 0 where
   pub character : get CHARACTER (icwOf (after m a q) a) ≡ b
   pub done : get INDONE (icwOf (after m a q) a) ≡ 1
   pub no-error : get FLAGS (icwOf (after m a q) a) ≡ flagNone
-  pub no-mark : get UNECHOED (icwOf (after m a q) a) ≡ 0
-  pub same-mode : get SEVEN (icwOf (after m a q) a) ≡ get SEVEN (icwOf m a)
+  pub no-mark : get NOT-ECHOED (icwOf (after m a q) a) ≡ 0
+  pub same-mode : get ASCII (icwOf (after m a q) a) ≡ get ASCII (icwOf m a)
   pub same-pointer : getD (after m a q) (a + atIBP) 0 ≡ getD m (a + atIBP) 0
   pub same-words : (k : ℕ) → k ≢ a + atICW → getD (after m a q) k 0 ≡ getD m k 0
 
@@ -113,7 +118,7 @@ unfolding inputService carried donePlan wordIf byteIf pick
 special m a q h s =
     let icw = icwOf m a in
     let c = q .ch .byte in
-    let w = doneICW icw flagNone unechoedBySpecial c in
+    let w = doneICW icw flagNone notEchoedBySpecial c in
     let planned = automatic m a q h ∙ pick-true (isSpecial c) (reportedPlan m a q) (bufferedPlan m a q) s in
     let written : after m a q ≡ set m (a + atICW) w = ap (λ (p : Plan). carried p a (nextOf m a) m) planned in
     let there = that-word m a q w written (h .placed) in
@@ -124,13 +129,13 @@ special m a q h s =
       character = ap (get CHARACTER) there ∙ done-character icw flagNone 0 c (lit< tt) (lit< tt) b ∙ top-bit icw c (h .ascii) .0;
       done = ap (get INDONE) there ∙ done-done icw flagNone 0 c (lit< tt) (lit< tt) b;
       no-error = ap (get FLAGS) there ∙ done-flags icw flagNone 0 c (lit< tt) (lit< tt) b;
-      no-mark = ap (get UNECHOED) there ∙ done-mark icw flagNone 0 c (lit< tt) (lit< tt) b;
-      same-mode = ap (get SEVEN) there ∙ done-ascii icw flagNone 0 c (lit< tt) (lit< tt) b;
+      no-mark = ap (get NOT-ECHOED) there ∙ done-mark icw flagNone 0 c (lit< tt) (lit< tt) b;
+      same-mode = ap (get ASCII) there ∙ done-ascii icw flagNone 0 c (lit< tt) (lit< tt) b;
       same-pointer = other-words m a q w written (a + atIBP) (λ e. omega (arith, e));
       same-words = other-words m a q w written;
     }
 
--- the glottal stop, low seven bits octal 174: one interrupt, octal 374 in ICW, and nothing stored that would print it again
+-- the glottal stop, low ascii bits octal 174: one interrupt, octal 374 in ICW, and nothing stored that would print it again
 pub glottal-stop : (m : List ℕ) (a : ℕ) (q : Port) → Automatic m a q → q .ch .byte % 128 ≡ 0o174 → Reported m a q 0o374
 unfolding isSpecial
 glottal-stop m a q h e = rw e at (special m a q h (rw e))
@@ -138,7 +143,7 @@ glottal-stop m a q h e = rw e at (special m a q h (rw e))
 -- ---- an ordinary code
 
 -- the byte is in the buffer, its top bit 1, and IBP names it unless the byte itself lies there. It is done, with an interrupt, only as the buffer's last byte or where its
--- echo finds the transmitter busy; where it is not, ICW is as read. Every other word is as Frame says.
+-- echo finds the transmitter busy; where it is not, ICW is as read. Every other word is as Kept says.
 pub record Stored (m : List ℕ) (a : ℕ) (q : Port) : Type 0 where
   pub stored : byteAt (after m a q) (nextOf m a) ≡ 128 + q .ch .byte % 128
   pub pointer : nextOf m a / 2 ≢ a + atIBP → getD (after m a q) (a + atIBP) 0 ≡ nextOf m a
@@ -162,7 +167,7 @@ ordinary m a q h s not-icw =
       stored =
           ap (λ (r : List ℕ). byteAt r next) written
           ∙ other-byte-of-word done stored (a + atICW) (p .icw) next not-icw
-          ∙ read-byte pointed next (p .byte) (rw length-wordIf (omega (arith, h .placed .words))) (stored-fits (seven (icwOf m a)) c (h .placed .byte))
+          ∙ read-byte pointed next (p .byte) (rw length-wordIf (omega (arith, h .placed .words))) (stored-fits (ascii (icwOf m a)) c (h .placed .byte))
           ∙ top-bit (icwOf m a) c (h .ascii) .1;
       pointer = λ not-ibp.
           ap (λ (r : List ℕ). getD r (a + atIBP) 0) written
@@ -187,8 +192,8 @@ ordinary m a q h s not-icw =
 pub record Replaced (m : List ℕ) (a : ℕ) (q : Port) : Type 0 where
   pub no-interrupt : inputService m a q .effect .raised ≡ false
   pub no-echo : inputService m a q .effect .sent ≡ false
-  pub character : get CHARACTER (icwOf (after m a q) a) ≡ wordByte (seven (icwOf m a)) (q .ch .byte)
-  pub lost-one : get LATE (icwOf (after m a q) a) ≡ 1
+  pub character : get CHARACTER (icwOf (after m a q) a) ≡ wordByte (ascii (icwOf m a)) (q .ch .byte)
+  pub lost-one : get SERVICE-OVERLOAD (icwOf (after m a q) a) ≡ 1
   pub flags : get FLAGS (icwOf (after m a q) a) ≡ codeOf q
   pub still-done : get INDONE (icwOf (after m a q) a) ≡ 1
   pub same-words : (k : ℕ) → k ≢ a + atICW → getD (after m a q) k 0 ≡ getD m k 0
@@ -207,7 +212,7 @@ replaced m a q h d =
       no-interrupt = ap (λ (p : Plan). p .raised) planned;
       no-echo = ap (λ (p : Plan). p .echo) planned;
       character = ap (get CHARACTER) there ∙ replaced-character icw (codeOf q) c fits (h .byte);
-      lost-one = ap (get LATE) there ∙ replaced-late icw (codeOf q) c fits (h .byte);
+      lost-one = ap (get SERVICE-OVERLOAD) there ∙ replaced-overload icw (codeOf q) c fits (h .byte);
       flags = ap (get FLAGS) there ∙ replaced-flags icw (codeOf q) c fits (h .byte);
       still-done = ap (get INDONE) there ∙ replaced-done icw (codeOf q) c fits (h .byte) ∙ d;
       same-words = other-words m a q w written;

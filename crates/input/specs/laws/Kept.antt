@@ -2,6 +2,7 @@
 --   kept-length   the memory keeps its length
 --   kept-word     every word is as it was but ICW, IBP and the word that holds the buffer's byte
 --   kept-byte     every byte is as it was but those of ICW and IBP and the one stored: of its word the other half is kept
+-- Not here: what the words that may change become, in Word and Glottal; the port's own changes, in scan.
 -- Assumes nothing.
 use mathlib.Core.Path.{_≡_}
 use mathlib.Core.Bool.{Bool, true, false, not, _&&_}
@@ -12,12 +13,14 @@ use lib.Dec.{eqb, lit<}
 use lib.ListN.{length, getD}
 use Rattle.ground.specs.Choose.{pick}
 use Rattle.words.specs.Field.{get}
-use Rattle.words.specs.Codes.{atICW, atIBP, INDONE, INMO, inNone, inSingle, flagNone, stored-fits}
+use Rattle.words.specs.Codes.{atICW, atIBP, INDONE, INMO, inNone, inSingle, flagNone}
+use Rattle.words.specs.laws.Codes.{stored-fits}
 use Rattle.words.specs.Pointer.{stepPtr}
-use Rattle.words.specs.Byte.{byteAt, length-wordIf, length-byteIf, other-word, other-word-of-byte, other-byte, other-byte-of-word}
-use Rattle.unit.specs.declared.Port.{Port}
-use Rattle.input.specs.declared.Plan.{Plan}
-use Rattle.input.specs.Input.{seven, inputPlan, replacedPlan, donePlan, storedPlan, carried, inputService}
+use Rattle.words.specs.Byte.{byteAt}
+use Rattle.words.specs.laws.Byte.{length-wordIf, length-byteIf, other-word, other-word-of-byte, other-byte, other-byte-of-word}
+use Rattle.unit.specs.declared.mux.Port.{Port}
+use Rattle.input.specs.declared.plan.Plan.{Plan}
+use Rattle.input.specs.Input.{ascii, inputPlan, replacedPlan, donePlan, storedPlan, carried, inputService}
 
 -- the pointer of the buffer's next byte, of a port whose block starts at the word a
 abbrev pub nextOf : List ℕ → ℕ → ℕ
@@ -55,7 +58,7 @@ plan-byte icw code c last special empty h =
     (either (eqb (get INMO icw) inNone) _ _ (lit< tt)
     (either (eqb (get INMO icw) inSingle) _ _ (lit< tt)
     (either (not (eqb code flagNone)) _ _ (lit< tt)
-    (either (seven icw && special) _ _ (lit< tt) (stored-fits (seven icw) c h)))))
+    (either (ascii icw && special) _ _ (lit< tt) (stored-fits (ascii icw) c h)))))
 
 -- ---- the service
 

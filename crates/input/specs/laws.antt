@@ -1,0 +1,7 @@
+-- What follows from the definitions of the input service. Nothing here need be believed.
+--   Word      what the host reads of ICW after it was written
+--   Kept      what a service may change in the memory, and that it changes nothing else
+--   Glottal   the glottal stop: what a special code, an ordinary one and a lost one leave
+pub mod Word
+pub mod Kept
+pub mod Glottal
