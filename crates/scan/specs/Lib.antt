@@ -1,5 +1,7 @@
 -- One inspection: what the contracts of this crate cite.
---   Scan   the turn of a port, the record after it, and the inspection with its refusals
---   Laws   which inspection is a turn, and what every turn does
+--   Turn   the turn of a port, over what it reads
+--   Scan   the port at the scan position, the position moved on, and the call with its refusals
+-- What follows from them stands in laws/.
+pub mod Turn
 pub mod Scan
-pub mod Laws
+pub mod laws

@@ -1,40 +1,20 @@
 // A sweep: inspections one after the other, the bytes handed over gathered in a lent list.
-use scan::Answer;
-use scan::inspect;
-use scan::inspect_code;
-use unit::Mux;
+use scan::turn::turn;
+use unit::mux::Mux;
+use unit::refusal::sweep_code;
+use unit::reply::Answer;
+use unit::reply::Replied;
+use unit::reply::Reply;
+use unit::reply::nothing;
+use unit::reply::refused;
 ghost use mathlib.Core.Path.{_≡_};
-ghost use Prim.Native.Nat.{_+_, _-_, _<_, _≤_};
-ghost use Rattle.ground.specs.Choose.{pick, bit};
+ghost use Prim.Native.Nat.{_-_, _<_, _≤_};
 ghost use lib.ListN.{length};
-ghost use Rattle.unit.specs.Refusals.{refusal, ofSweep};
+ghost use Rattle.ground.specs.Choose.{pick};
+ghost use Rattle.unit.specs.Reply.{outcome};
+ghost use Rattle.unit.specs.Refusals.{WORDS, MOST-INSPECTIONS};
 ghost use Rattle.unit.specs.Sound.{Sound};
-ghost use Rattle.sweep.specs.Sweep.{entryOf, entered, setOut, arrivedAt, sweepFrom, gone, sweep};
-
-// The refusal number or 0, how many inspections were made, how many list places were used, the record.
-pub struct Swept {
-    pub code: u8,
-    pub made: u32,
-    pub used: u32,
-    pub mux: Mux,
-}
-
-// Rows 6, 7, 9 and 10: what a sweep is refused with, or 0.
-pub fn sweep_code(u: Mux, mem: &[u16], n: u32, list: &[u16]) -> u8
-    ensures { λ r. ⌜ r ≡ refusal (ofSweep u (now (mem .entry)) n (now (list .entry))) ⌝ }
-{
-    let code = inspect_code(u, mem);
-    if code != 0 {
-        return code;
-    }
-    if 4096 < n {
-        return 9;
-    }
-    if list.len() < n as usize {
-        return 10;
-    }
-    0
-}
+ghost use Rattle.sweep.specs.Sweep.{entryOf, Entered, setOut, swept, arrivedAt, sweepFrom, sweep};
 
 // A byte handed over as the list has it: port·256 + byte.
 fn entry_of(a: Answer) -> u16
@@ -49,7 +29,7 @@ fn enter(list: &mut [u16], used: u32, a: Answer) -> u32
     requires { ⌜ a .port < 128 ⌝ }
     requires { ⌜ used < length (now list) ⌝ }
     requires { ⌜ used < 4096 ⌝ }
-    ensures { λ r. ⌜ (r ≡ used + bit (a .sent)) × (now (list .exit) ≡ entered a used (now (list .entry))) ⌝ }
+    ensures { λ r. ⌜ Entered a used (now (list .entry)) r (now (list .exit)) ⌝ }
 {
     if a.sent {
         let at = used as usize;
@@ -80,45 +60,59 @@ fn left_after(raised: bool, left: u32) -> u32
     left - 1
 }
 
-// As many inspections as the rule asks.
-fn go(u: Mux, mem: &mut [u16], n: u32, list: &mut [u16]) -> Swept
+// What a sweep answers that is not refused.
+fn swept(made: u32, used: u32, u: Mux) -> Replied
+    ensures { λ r. ⌜ r ≡ swept made used u ⌝ }
+{
+    Replied {
+        reply: Reply {
+            code: 0,
+            value: 0,
+            answer: nothing(),
+            made,
+            used,
+        },
+        mux: u,
+    }
+}
+
+// As many inspections as the rule asks. Each turn is put into the one record that the loop holds, as `scan::moved` does.
+fn go(u: Mux, mem: &mut [u16], n: u32, list: &mut [u16]) -> Replied
     requires { ⌜ Sound u ⌝ }
-    requires { ⌜ length (now mem) ≡ 32768 ⌝ }
-    requires { ⌜ n ≤ 4096 ⌝ }
+    requires { ⌜ length (now mem) ≡ WORDS ⌝ }
+    requires { ⌜ n ≤ MOST-INSPECTIONS ⌝ }
     requires { ⌜ n ≤ length (now list) ⌝ }
-    ensures { λ r. ⌜ gone r (now (mem .exit)) (now (list .exit)) ≡ arrivedAt (sweepFrom n (setOut u (now (mem .entry)) (now (list .entry)))) ⌝ }
+    ensures { λ r. ⌜ outcome r (now (mem .exit)) (now (list .exit)) ≡ arrivedAt (sweepFrom n (setOut u (now (mem .entry)) (now (list .entry)))) ⌝ }
 {
     let mut v = u;
     let mut made = 0;
     let mut used = 0;
     let mut left = at_first(u.runs, n);
     while 0 < left {
-        let s = inspect(v, mem);
-        v = s.mux;
+        let s = v.setting;
+        let i = v.irq;
+        let at = v.pos as usize;
+        let q = v.port[at];
+        let t = turn(s, v.pos, q, i, mem);
+        let p = t.port;
+        let j = t.irq;
+        v.port[at] = p;
+        v.irq = j;
+        v.pos = (v.pos + 1) % s.ports;
         made += 1;
-        used = enter(list, used, s.answer);
-        left = left_after(s.answer.raised, left);
+        used = enter(list, used, t.answer);
+        left = left_after(t.answer.raised, left);
     }
-    Swept {
-        code: 0,
-        made,
-        used,
-        mux: v,
-    }
+    swept(made, used, v)
 }
 
 // A sweep of n inspections.
-pub fn sweep(u: Mux, mem: &mut [u16], n: u32, list: &mut [u16]) -> Swept
-    ensures { λ r. ⌜ gone r (now (mem .exit)) (now (list .exit)) ≡ sweep u (now (mem .entry)) n (now (list .entry)) ⌝ }
+pub fn sweep(u: Mux, mem: &mut [u16], n: u32, list: &mut [u16]) -> Replied
+    ensures { λ r. ⌜ outcome r (now (mem .exit)) (now (list .exit)) ≡ sweep u (now (mem .entry)) n (now (list .entry)) ⌝ }
 {
     let code = sweep_code(u, mem, n, list);
     if code != 0 {
-        return Swept {
-            code,
-            made: 0,
-            used: 0,
-            mux: u,
-        };
+        return refused(code, u);
     }
     go(u, mem, n, list)
 }

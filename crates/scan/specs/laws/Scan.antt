@@ -1,10 +1,11 @@
 -- Laws of one inspection (document 01, of that name). The services are not opened.
---   counts                         an answer that is a turn's
---   counted .. kind                which inspection is a turn: a sound running unit with 32,768 words always takes it
---   scanned-input .. -idle         a held character means input; else an empty transmitter means output; else nothing is done
---   Turned, turned                 what every turn does: no refusal, its port named, the position one on, the rest kept
---   turned-sound, answer-names     the record is sound again; an answer other than "nothing" names its port
---   turn-takes, input-empty        after its turn a port holds nothing; after input the transmitter is as it was unless an echo was handed to it
+--   counted .. kind             which inspection is a turn: a sound running unit with 32,768 words always takes it
+--   scanned-input .. -idle      a held character means input; else an empty transmitter means output; else nothing is done
+--   served-says, served-names   what a turn that served answers
+--   Does, turn-does             what every turn of a port does, over what it reads
+--   Moves, scan-moves           what every inspection that is a turn does: no refusal, its port named, the position one on, the rest kept
+--   moves-sound, answer-names   the record is sound again; an answer other than "nothing" names its port
+--   turn-takes, service-empty   after its turn a port holds nothing; after a service the transmitter is as it was unless a byte was handed to it
 -- Assumes nothing.
 use mathlib.Core.Path.{_≡_, refl, ap, sym, _∙_}
 use mathlib.Core.Bool.{Bool, true, false, not, _&&_, false≢true}
@@ -14,26 +15,29 @@ use Prim.Native.Nat.{ℕ, _+_, _%_, _<_}
 use native.Mathlib.Nat.{mod-lt}
 use native.Mathlib.Decide.{ℕ-discrete}
 use lib.Dec.{eqb}
-use lib.ListN.{set, length, length-set}
+use lib.ListN.{length, length-set}
 use borrow.Author.Tests.{ne-eqb}
 use Rattle.ground.specs.Choose.{pick}
-use Rattle.unit.specs.declared.Port.{Port}
-use Rattle.unit.specs.declared.Mux.{Mux}
-use Rattle.unit.specs.Record.{portAt, blockAt, Serviced}
-use Rattle.unit.specs.Refusals.{settingOf, refusal, ofInspection}
-use Rattle.unit.specs.Sound.{Sound, sound-with, inspection-iff}
-use Rattle.unit.specs.Ports.{held-inside, port-same, port-other, port-written}
-use Rattle.input.specs.Input.{inputService}
-use Rattle.input.specs.Frame.{kept-length as input-length}
-use Rattle.output.specs.Output.{outputService}
-use Rattle.output.specs.Frame.{kept-length as output-length}
-use Rattle.scan.specs.declared.Turn.{Turn}
-use Rattle.scan.specs.declared.Turn.the-variants.{Idle, Input, Output}
-use Rattle.scan.specs.Scan.{turnNumber, Looked, tookInput, tookOutput, nextPos, moved, irqAfter, servedTurn, inputTurn, outputTurn, idleTurn, scanned, unchanged, inspection}
-
--- an answer that is a turn's: any but "nothing"
-unfoldable pub counts : Turn → Bool
-counts t = not (eqb (turnNumber t) 0)
+use Rattle.interrupt.specs.declared.Service.{Service}
+use Rattle.interrupt.specs.declared.Service.the-variants.{Input, Output}
+use Rattle.interrupt.specs.declared.Irq.{Irq}
+use Rattle.interrupt.specs.Interrupt.{unsound}
+use Rattle.interrupt.specs.laws.Interrupt.{raised-sound}
+use Rattle.unit.specs.declared.mux.Setting.{Setting}
+use Rattle.unit.specs.declared.mux.Port.{Port}
+use Rattle.unit.specs.declared.mux.Mux.{Mux}
+use Rattle.unit.specs.declared.reply.Turn.{Turn}
+use Rattle.unit.specs.declared.reply.Turn.the-variants.{Served}
+use Rattle.unit.specs.Record.{portAt, addressAt}
+use Rattle.unit.specs.Reply.{counts, refused, Looked, looked}
+use Rattle.unit.specs.Refusals.{WORDS, refusal, ofInspection}
+use Rattle.unit.specs.Sound.{Sound}
+use Rattle.unit.specs.laws.Sound.{sound-with, inspection-iff}
+use Rattle.unit.specs.laws.Ports.{held-inside, port-same, port-other, port-written}
+use Rattle.input.specs.laws.Kept.{kept-length as input-length}
+use Rattle.output.specs.laws.Kept.{kept-length as output-length}
+use Rattle.scan.specs.Turn.{service, took, irqAfter, Turning, servedTurn, idleTurn, turn}
+use Rattle.scan.specs.Scan.{nextPos, moved, lookedAt, serviceTurn, scanned, inspection}
 
 -- ---- which inspection is a turn
 
@@ -42,203 +46,208 @@ pub counted : (u : Mux) (m : List ℕ) → refusal (ofInspection u m) ≡ 0 → 
 unfolding inspection pick
 counted u m e r = rw (e, r)
 
-pub sound-counted : (u : Mux) (m : List ℕ) → Sound u → u .runs ≡ true → length m ≡ 32768 → inspection u m ≡ scanned u m
+pub sound-counted : (u : Mux) (m : List ℕ) → Sound u → u .runs ≡ true → length m ≡ WORDS → inspection u m ≡ scanned u m
 sound-counted u m s r w = counted u m (inspection-iff u m .1 (s, w)) r
 
 -- a stopped unit answers "nothing" and changes nothing
-pub stopped : (u : Mux) (m : List ℕ) → refusal (ofInspection u m) ≡ 0 → u .runs ≡ false → inspection u m ≡ unchanged 0 u m
+pub stopped : (u : Mux) (m : List ℕ) → refusal (ofInspection u m) ≡ 0 → u .runs ≡ false → inspection u m ≡ looked (refused 0 u) m
 unfolding inspection pick
 stopped u m e r = rw (e, r)
 
 -- a refused inspection answers its number and "nothing", and changes nothing
-pub refused : (u : Mux) (m : List ℕ) → (refusal (ofInspection u m) ≡ 0 → ⊥) → inspection u m ≡ unchanged (refusal (ofInspection u m)) u m
+pub inspection-refused : (u : Mux) (m : List ℕ) → (refusal (ofInspection u m) ≡ 0 → ⊥) → inspection u m ≡ looked (refused (refusal (ofInspection u m)) u) m
 unfolding inspection pick
-refused u m h = rw (ne-eqb (refusal (ofInspection u m)) 0 h)
+inspection-refused u m h = rw (ne-eqb (refusal (ofInspection u m)) 0 h)
 
 -- an inspection is a turn, or it changes nothing and answers "nothing"
 pub data Kind (u : Mux) (m : List ℕ) : Type 0 where
   takes-turn : refusal (ofInspection u m) ≡ 0 → u .runs ≡ true → inspection u m ≡ scanned u m → Kind u m
-  stands-still : (k : ℕ) → inspection u m ≡ unchanged k u m → Kind u m
+  stands-still : (k : ℕ) → refusal (ofInspection u m) ≡ k → inspection u m ≡ looked (refused k u) m → Kind u m
 
 pub kind : (u : Mux) (m : List ℕ) → Kind u m
 kind u m = go (ℕ-discrete (refusal (ofInspection u m)) 0) (u .runs) refl
   where
     go : Dec (refusal (ofInspection u m) ≡ 0) → (r : Bool) → u .runs ≡ r → Kind u m
     go (yes e) true r = takes-turn e r (counted u m e r)
-    go (yes e) false r = stands-still 0 (stopped u m e r)
-    go (no h) r e = stands-still (refusal (ofInspection u m)) (refused u m h)
+    go (yes e) false r = stands-still 0 e (stopped u m e r)
+    go (no h) r e = stands-still (refusal (ofInspection u m)) refl (inspection-refused u m h)
 
 -- ---- which turn it is
 
+module _ (s : Setting) (p : ℕ) (q : Port) (i : Irq) (m : List ℕ) where
+  -- a turn is that of a service or an idle one, and how the port stood
+  pub data TurnIs : Type 0 where
+    input-turn : q .held ≡ true → turn s p q i m ≡ servedTurn Input s p q i m → TurnIs
+    output-turn : q .held ≡ false → q .empty ≡ true → turn s p q i m ≡ servedTurn Output s p q i m → TurnIs
+    idle-turn : q .held ≡ false → q .empty ≡ false → turn s p q i m ≡ idleTurn p q i m → TurnIs
+
+  pub turn-is : TurnIs
+  unfolding turn pick
+  turn-is = go (q .held) refl (q .empty) refl
+    where
+      go : (h : Bool) → q .held ≡ h → (e : Bool) → q .empty ≡ e → TurnIs
+      go true h e f = input-turn h (rw h)
+      go false h true f = output-turn h f (rw (h, f))
+      go false h false f = idle-turn h f (rw (h, f))
+
 -- a held character means input
-pub scanned-input : (u : Mux) (m : List ℕ) → portAt u (u .pos) .held ≡ true → scanned u m ≡ inputTurn u m
-unfolding scanned pick
+pub scanned-input : (u : Mux) (m : List ℕ) → portAt u (u .pos) .held ≡ true → scanned u m ≡ serviceTurn Input u m
+unfolding scanned serviceTurn turn pick
 scanned-input u m h = rw h
 
 -- otherwise an empty transmitter means output
-pub scanned-output : (u : Mux) (m : List ℕ) → portAt u (u .pos) .held ≡ false → portAt u (u .pos) .empty ≡ true → scanned u m ≡ outputTurn u m
-unfolding scanned pick
+pub scanned-output : (u : Mux) (m : List ℕ) → portAt u (u .pos) .held ≡ false → portAt u (u .pos) .empty ≡ true → scanned u m ≡ serviceTurn Output u m
+unfolding scanned serviceTurn turn pick
 scanned-output u m h e = rw (h, e)
 
 -- otherwise nothing is done
-pub scanned-idle : (u : Mux) (m : List ℕ) → portAt u (u .pos) .held ≡ false → portAt u (u .pos) .empty ≡ false → scanned u m ≡ idleTurn u m
-unfolding scanned pick
+pub scanned-idle : (u : Mux) (m : List ℕ) → portAt u (u .pos) .held ≡ false → portAt u (u .pos) .empty ≡ false → scanned u m ≡ lookedAt u (idleTurn (u .pos) (portAt u (u .pos)) (u .irq) m)
+unfolding scanned turn pick
 scanned-idle u m h e = rw (h, e)
 
--- what each answers
-pub input-says : (u : Mux) (m : List ℕ) → inputTurn u m .said .answer .turn ≡ Input
-unfolding inputTurn servedTurn
-input-says u m = refl
+-- what a turn that served answers
+pub served-says : (k : Service) (u : Mux) (m : List ℕ) → serviceTurn k u m .reply .answer .turn ≡ Served k
+unfolding serviceTurn servedTurn
+served-says k u m = refl
 
-pub input-names : (u : Mux) (m : List ℕ) → inputTurn u m .said .answer .port ≡ u .pos
-unfolding inputTurn servedTurn
-input-names u m = refl
+pub served-names : (k : Service) (u : Mux) (m : List ℕ) → serviceTurn k u m .reply .answer .port ≡ u .pos
+unfolding serviceTurn servedTurn
+served-names k u m = refl
 
-pub output-says : (u : Mux) (m : List ℕ) → outputTurn u m .said .answer .turn ≡ Output
-unfolding outputTurn servedTurn
-output-says u m = refl
+-- ---- what a turn of a port does
 
-pub idle-says : (u : Mux) (m : List ℕ) → idleTurn u m .said .answer .turn ≡ Idle
-unfolding idleTurn
-idle-says u m = refl
+-- it is a turn's answer and names the port; it leaves a sound interrupt side sound, and the memory as long as it was
+pub record Does (p : ℕ) (i : Irq) (m : List ℕ) (t : Turning) : Type 0 where
+  pub counted : counts (t .turned .answer .turn) ≡ true
+  pub names : t .turned .answer .port ≡ p
+  pub irq : unsound i ≡ false → unsound (t .turned .irq) ≡ false
+  pub words : length (t .memory) ≡ length m
 
--- ---- what a turn does
+service-length : (k : Service) (m : List ℕ) (a : ℕ) (q : Port) → length (service k m a q .memory) ≡ length m
+unfolding service
+service-length Input m a q = input-length m a q
+service-length Output m a q = output-length m a q
+
+irq-sound : (s : Setting) (p : ℕ) (i : Irq) (k : Service) (r : Bool) → unsound i ≡ false → unsound (irqAfter s p i k r) ≡ false
+unfolding irqAfter pick
+irq-sound s p i k true e = raised-sound k (addressAt s p) i e
+irq-sound s p i k false e = e
+
+service-counts : (k : Service) → counts (Served k) ≡ true
+unfolding counts
+service-counts Input = refl
+service-counts Output = refl
+
+served-does : (k : Service) (s : Setting) (p : ℕ) (q : Port) (i : Irq) (m : List ℕ) → Does p i m (servedTurn k s p q i m)
+unfolding servedTurn
+served-does k s p q i m =
+    record { counted = service-counts k; names = refl; irq = irq-sound s p i k _; words = service-length k m _ q }
+
+idle-does : (p : ℕ) (q : Port) (i : Irq) (m : List ℕ) → Does p i m (idleTurn p q i m)
+unfolding idleTurn counts
+idle-does p q i m = record { counted = refl; names = refl; irq = λ e. e; words = refl }
+
+-- every turn of a port
+pub turn-does : (s : Setting) (p : ℕ) (q : Port) (i : Irq) (m : List ℕ) → Does p i m (turn s p q i m)
+turn-does s p q i m = go (turn-is s p q i m)
+  where
+    go : TurnIs s p q i m → Does p i m (turn s p q i m)
+    go (input-turn h e) = rw e (served-does Input s p q i m)
+    go (output-turn h f e) = rw e (served-does Output s p q i m)
+    go (idle-turn h f e) = rw e (idle-does p q i m)
+
+-- after its turn a port holds nothing: what was held has been taken
+turn-leaves : (s : Setting) (p : ℕ) (q : Port) (i : Irq) (m : List ℕ) → turn s p q i m .turned .port .held ≡ false
+unfolding servedTurn idleTurn took
+turn-leaves s p q i m = go (turn-is s p q i m)
+  where
+    go : TurnIs s p q i m → turn s p q i m .turned .port .held ≡ false
+    go (input-turn h e) = rw e
+    go (output-turn h f e) = rw e h
+    go (idle-turn h f e) = rw e h
+
+-- ---- what an inspection that is a turn does
 
 -- no refusal; the port at the position named; the position one on; setting, unit, clock and every other port as they were;
 -- the memory as long as it was
-pub record Turned (u : Mux) (m : List ℕ) (l : Looked) : Type 0 where
-  pub code : l .said .code ≡ 0
-  pub counted : counts (l .said .answer .turn) ≡ true
-  pub names : l .said .answer .port ≡ u .pos
-  pub position : l .said .mux .pos ≡ (u .pos + 1) % u .ports
-  pub setting : settingOf (l .said .mux) ≡ settingOf u
-  pub runs : l .said .mux .runs ≡ u .runs
-  pub clock : l .said .mux .clock ≡ u .clock
-  pub others : (r : ℕ) → (r ≡ u .pos → ⊥) → portAt (l .said .mux) r ≡ portAt u r
-  pub ports : length (l .said .mux .port) ≡ length (u .port)
-  pub words : length (l .memory) ≡ length m
+pub record Moves (u : Mux) (m : List ℕ) (l : Looked) : Type 0 where
+  pub code : l .reply .code ≡ 0
+  pub counted : counts (l .reply .answer .turn) ≡ true
+  pub names : l .reply .answer .port ≡ u .pos
+  pub position : l .world .mux .pos ≡ (u .pos + 1) % u .setting .ports
+  pub setting : l .world .mux .setting ≡ u .setting
+  pub runs : l .world .mux .runs ≡ u .runs
+  pub clock : l .world .mux .clock ≡ u .clock
+  pub irq : unsound (u .irq) ≡ false → unsound (l .world .mux .irq) ≡ false
+  pub others : (r : ℕ) → (r ≡ u .pos → ⊥) → portAt (l .world .mux) r ≡ portAt u r
+  pub ports : length (l .world .mux .port) ≡ length (u .port)
+  pub words : length (l .world .memory) ≡ length m
 
--- a turn that leaves the record moved is such a one
-served-turned : (u : Mux) (m : List ℕ) (turn : Turn) (input : Bool) (q : Port) (s : Serviced) → counts turn ≡ true → length (s .memory) ≡ length m → Turned u m (servedTurn u turn input q s)
-unfolding servedTurn nextPos
-served-turned u m turn input q s c w =
+-- every one
+pub scan-moves : (u : Mux) (m : List ℕ) → Moves u m (scanned u m)
+unfolding scanned nextPos
+scan-moves u m =
+    let t = turn (u .setting) (u .pos) (portAt u (u .pos)) (u .irq) m in
+    let d = turn-does (u .setting) (u .pos) (portAt u (u .pos)) (u .irq) m in
     record {
       code = refl;
-      counted = c;
-      names = refl;
+      counted = d .counted;
+      names = d .names;
       position = refl;
       setting = refl;
       runs = refl;
       clock = refl;
-      others = port-other u (moved u q (irqAfter u input (s .effect))) (u .pos) q refl;
-      ports = length-set (u .port) (u .pos) q;
-      words = w;
+      irq = d .irq;
+      others = port-other u (moved u (t .turned)) (u .pos) (t .turned .port) refl;
+      ports = length-set (u .port) (u .pos) (t .turned .port);
+      words = d .words;
     }
-
-idle-turned : (u : Mux) (m : List ℕ) → Turned u m (idleTurn u m)
-unfolding idleTurn nextPos counts
-idle-turned u m =
-    record {
-      code = refl;
-      counted = refl;
-      names = refl;
-      position = refl;
-      setting = refl;
-      runs = refl;
-      clock = refl;
-      others = port-other u (moved u (portAt u (u .pos)) (u .irq)) (u .pos) (portAt u (u .pos)) refl;
-      ports = length-set (u .port) (u .pos) (portAt u (u .pos));
-      words = refl;
-    }
-
-input-turned : (u : Mux) (m : List ℕ) → Turned u m (inputTurn u m)
-unfolding inputTurn counts
-input-turned u m =
-    let s = inputService m (blockAt u (u .pos)) (portAt u (u .pos)) in
-    served-turned u m Input true (tookInput (portAt u (u .pos)) (s .effect)) s refl (input-length m (blockAt u (u .pos)) (portAt u (u .pos)))
-
-output-turned : (u : Mux) (m : List ℕ) → Turned u m (outputTurn u m)
-unfolding outputTurn counts
-output-turned u m =
-    let s = outputService m (blockAt u (u .pos)) (portAt u (u .pos)) in
-    served-turned u m Output false (tookOutput (portAt u (u .pos)) (s .effect)) s refl (output-length m (blockAt u (u .pos)) (portAt u (u .pos)))
-
--- every turn is such a one
-pub turned : (u : Mux) (m : List ℕ) → Turned u m (scanned u m)
-turned u m = go (portAt u (u .pos) .held) refl (portAt u (u .pos) .empty) refl
-  where
-    go : (held : Bool) → portAt u (u .pos) .held ≡ held → (empty : Bool) → portAt u (u .pos) .empty ≡ empty → Turned u m (scanned u m)
-    go true h empty e = rw (scanned-input u m h) (input-turned u m)
-    go false h true e = rw (scanned-output u m h e) (output-turned u m)
-    go false h false e = rw (scanned-idle u m h e) (idle-turned u m)
 
 -- the record is sound again
-pub turned-sound : (u : Mux) (m : List ℕ) (l : Looked) → Turned u m l → Sound u → Sound (l .said .mux)
-turned-sound u m l t s =
-    sound-with u (l .said .mux) (t .setting) (rw (t .position, ap (λ x. x .ports) (t .setting)) (mod-lt (u .pos + 1) (s .setting .some-port))) s
+pub moves-sound : (u : Mux) (m : List ℕ) (l : Looked) → Moves u m l → Sound u → Sound (l .world .mux)
+moves-sound u m l t s =
+    sound-with u (l .world .mux) (t .setting) (rw (t .position, ap (λ x. x .ports) (t .setting)) (mod-lt (u .pos + 1) (s .setting .some-port))) (t .irq) s
 
 -- an answer other than "nothing" names the port at the position
-pub answer-names : (u : Mux) (m : List ℕ) → counts (inspection u m .said .answer .turn) ≡ true → inspection u m .said .answer .port ≡ u .pos
-unfolding unchanged counts
+pub answer-names : (u : Mux) (m : List ℕ) → counts (inspection u m .reply .answer .turn) ≡ true → inspection u m .reply .answer .port ≡ u .pos
+unfolding counts
 answer-names u m c = go (kind u m)
   where
-    go : Kind u m → inspection u m .said .answer .port ≡ u .pos
-    go (takes-turn e r t) = rw t (turned u m .names)
-    go (stands-still k t) = absurd (false≢true (ap (λ l. counts (l .said .answer .turn)) (sym t) ∙ c))
+    go : Kind u m → inspection u m .reply .answer .port ≡ u .pos
+    go (takes-turn e r t) = rw t (scan-moves u m .names)
+    go (stands-still k e t) = absurd (false≢true (ap (λ l. counts (l .reply .answer .turn)) (sym t) ∙ c))
 
 -- no inspection stops a unit or sets it going
-pub inspection-runs : (u : Mux) (m : List ℕ) → inspection u m .said .mux .runs ≡ u .runs
-unfolding unchanged
+pub inspection-runs : (u : Mux) (m : List ℕ) → inspection u m .world .mux .runs ≡ u .runs
 inspection-runs u m = go (kind u m)
   where
-    go : Kind u m → inspection u m .said .mux .runs ≡ u .runs
-    go (takes-turn e r t) = rw t (turned u m .runs)
-    go (stands-still k t) = rw t
+    go : Kind u m → inspection u m .world .mux .runs ≡ u .runs
+    go (takes-turn e r t) = rw t (scan-moves u m .runs)
+    go (stands-still k e t) = rw t
 
 -- ---- the port after its turn
 
--- a port that held nothing, and is left with nothing held, holds nothing
-none-held : (u v : Mux) (q : Port) → v .port ≡ set (u .port) (u .pos) q → q .held ≡ false → portAt u (u .pos) .held ≡ false → portAt v (u .pos) .held ≡ false
-none-held u v q e h k = go (port-written u v (u .pos) q e)
-  where
-    go : (portAt v (u .pos) ≡ q) ⊎ (portAt v (u .pos) ≡ portAt u (u .pos)) → portAt v (u .pos) .held ≡ false
-    go (inl g) = rw g h
-    go (inr g) = rw g k
-
--- after input nothing is held
-input-takes : (u : Mux) (m : List ℕ) → portAt u (u .pos) .held ≡ true → portAt (inputTurn u m .said .mux) (u .pos) .held ≡ false
-unfolding inputTurn servedTurn
-input-takes u m h =
-    let q = portAt u (u .pos) in
-    let e = inputService m (blockAt u (u .pos)) q .effect in
-    ap (λ x. x .held) (port-same u (moved u (tookInput q e) (irqAfter u true e)) (u .pos) (tookInput q e) refl (held-inside u (u .pos) h))
-
--- where nothing was held, nothing is held after output
-output-takes : (u : Mux) (m : List ℕ) → portAt u (u .pos) .held ≡ false → portAt (outputTurn u m .said .mux) (u .pos) .held ≡ false
-unfolding outputTurn servedTurn
-output-takes u m h =
-    let q = portAt u (u .pos) in
-    let e = outputService m (blockAt u (u .pos)) q .effect in
-    none-held u (moved u (tookOutput q e) (irqAfter u false e)) (tookOutput q e) refl h h
-
--- nor after an idle turn
-idle-takes : (u : Mux) (m : List ℕ) → portAt u (u .pos) .held ≡ false → portAt (idleTurn u m .said .mux) (u .pos) .held ≡ false
-unfolding idleTurn
-idle-takes u m h = none-held u (moved u (portAt u (u .pos)) (u .irq)) (portAt u (u .pos)) refl h h
-
 -- after its turn a port holds nothing: what was held has been taken
-pub turn-takes : (u : Mux) (m : List ℕ) → portAt (scanned u m .said .mux) (u .pos) .held ≡ false
-turn-takes u m = go (portAt u (u .pos) .held) refl (portAt u (u .pos) .empty) refl
+pub turn-takes : (u : Mux) (m : List ℕ) → portAt (scanned u m .world .mux) (u .pos) .held ≡ false
+unfolding scanned
+turn-takes u m = go (portAt u (u .pos) .held) refl
   where
-    go : (held : Bool) → portAt u (u .pos) .held ≡ held → (empty : Bool) → portAt u (u .pos) .empty ≡ empty → portAt (scanned u m .said .mux) (u .pos) .held ≡ false
-    go true h empty e = rw (scanned-input u m h) (input-takes u m h)
-    go false h true e = rw (scanned-output u m h e) (output-takes u m h)
-    go false h false e = rw (scanned-idle u m h e) (idle-takes u m h)
+    t : Turning
+    t = turn (u .setting) (u .pos) (portAt u (u .pos)) (u .irq) m
 
--- after input the transmitter is empty if it was and no echo was handed to it
-pub input-empty : (u : Mux) (m : List ℕ) → u .pos < length (u .port) → portAt (inputTurn u m .said .mux) (u .pos) .empty ≡ (portAt u (u .pos) .empty && not (inputTurn u m .said .answer .sent))
-unfolding inputTurn servedTurn
-input-empty u m h =
-    let q = portAt u (u .pos) in
-    let s = inputService m (blockAt u (u .pos)) q in
-    ap (λ x. x .empty) (port-same u (moved u (tookInput q (s .effect)) (irqAfter u true (s .effect))) (u .pos) (tookInput q (s .effect)) refl h)
+    left : t .turned .port .held ≡ false
+    left = turn-leaves (u .setting) (u .pos) (portAt u (u .pos)) (u .irq) m
+
+    written : (portAt (moved u (t .turned)) (u .pos) ≡ t .turned .port) ⊎ (portAt (moved u (t .turned)) (u .pos) ≡ portAt u (u .pos)) → portAt u (u .pos) .held ≡ false → portAt (moved u (t .turned)) (u .pos) .held ≡ false
+    written (inl g) h = rw g left
+    written (inr g) h = rw g h
+
+    go : (held : Bool) → portAt u (u .pos) .held ≡ held → portAt (moved u (t .turned)) (u .pos) .held ≡ false
+    go true h = rw (port-same u (moved u (t .turned)) (u .pos) (t .turned .port) refl (held-inside u (u .pos) h)) left
+    go false h = written (port-written u (moved u (t .turned)) (u .pos) (t .turned .port) refl) h
+
+-- after a service the transmitter is empty if it was and no byte was handed to it
+pub service-empty : (k : Service) (u : Mux) (m : List ℕ) → u .pos < length (u .port) → portAt (serviceTurn k u m .world .mux) (u .pos) .empty ≡ (portAt u (u .pos) .empty && not (serviceTurn k u m .reply .answer .sent))
+unfolding serviceTurn servedTurn took
+service-empty Input u m h = ap (λ x. x .empty) (port-same u _ (u .pos) _ refl h)
+service-empty Output u m h = ap (λ x. x .empty) (port-same u _ (u .pos) _ refl h)

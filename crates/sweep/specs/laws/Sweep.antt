@@ -2,7 +2,7 @@
 --   look                              the inspection that comes next
 --   sweep-end, -stopped, -raised, -more   how a sweep goes on
 --   Looks                             so many inspections one after the other, and whether the last one raised an interrupt
---   Swept, swept                      a sweep is the composition of the inspections it counts: n, or fewer only because the last one raised
+--   Sweeping, sweeps                    a sweep is the composition of the inspections it counts: n, or fewer only because the last one raised
 --   Listed, listed                    what the sweep leaves in the list
 --   sweep-refused, sweep-done         the call
 -- Assumes nothing.
@@ -15,12 +15,14 @@ use lib.Dec.{eqb}
 use lib.ListN.{length, getD, set, length-set}
 use lib.Seq.{getD-set-other}
 use borrow.Author.Tests.{eq-eqb, ne-eqb}
-use Rattle.ground.specs.Choose.{pick, pick-true, pick-false, bit}
-use Rattle.unit.specs.declared.Mux.{Mux}
+use Rattle.ground.specs.Choose.{pick, bit}
+use Rattle.ground.specs.laws.Rows.{pick-true, pick-false}
+use Rattle.unit.specs.declared.mux.Mux.{Mux}
+use Rattle.unit.specs.Reply.{refused, Looked, outcome}
 use Rattle.unit.specs.Refusals.{refusal, ofSweep}
-use Rattle.scan.specs.Scan.{Looked, inspection}
-use Rattle.scan.specs.Laws.{inspection-runs}
-use Rattle.sweep.specs.Sweep.{Going, entryOf, entered, going, sweepFrom, setOut, arrivedAt, kept, sweep}
+use Rattle.scan.specs.Scan.{inspection}
+use Rattle.scan.specs.laws.Scan.{inspection-runs}
+use Rattle.sweep.specs.Sweep.{Going, entryOf, entered, going, sweepFrom, setOut, arrivedAt, sweep}
 
 -- the inspection that comes next
 abbrev pub look : Going → Looked
@@ -40,12 +42,12 @@ sweep-stopped zero s r = refl
 sweep-stopped (suc n) s r = rw r
 
 -- it stops after an inspection that raises an interrupt
-pub sweep-raised : (n : ℕ) (s : Going) → s .mux .runs ≡ true → look s .said .answer .raised ≡ true → sweepFrom (suc n) s ≡ going s (look s)
+pub sweep-raised : (n : ℕ) (s : Going) → s .mux .runs ≡ true → look s .reply .answer .raised ≡ true → sweepFrom (suc n) s ≡ going s (look s)
 unfolding sweepFrom pick
 sweep-raised n s r i = rw (i, r)
 
 -- otherwise it goes on
-pub sweep-more : (n : ℕ) (s : Going) → s .mux .runs ≡ true → look s .said .answer .raised ≡ false → sweepFrom (suc n) s ≡ sweepFrom n (going s (look s))
+pub sweep-more : (n : ℕ) (s : Going) → s .mux .runs ≡ true → look s .reply .answer .raised ≡ false → sweepFrom (suc n) s ≡ sweepFrom n (going s (look s))
 unfolding sweepFrom pick
 sweep-more n s r i = rw (i, r)
 
@@ -54,12 +56,12 @@ sweep-more n s r i = rw (i, r)
 -- k inspections of a running unit, one after the other, of which none but the last may raise an interrupt; the bool says whether it did
 pub data Looks : ℕ → Bool → Going → Going → Type 0 where
   none : {s : Going} → Looks 0 false s s
-  last : {s : Going} → s .mux .runs ≡ true → look s .said .answer .raised ≡ true → Looks 1 true s (going s (look s))
-  more : {k : ℕ} {b : Bool} {s t : Going} → s .mux .runs ≡ true → look s .said .answer .raised ≡ false → Looks k b (going s (look s)) t → Looks (suc k) b s t
+  last : {s : Going} → s .mux .runs ≡ true → look s .reply .answer .raised ≡ true → Looks 1 true s (going s (look s))
+  more : {k : ℕ} {b : Bool} {s t : Going} → s .mux .runs ≡ true → look s .reply .answer .raised ≡ false → Looks k b (going s (look s)) t → Looks (suc k) b s t
 
 -- a sweep of n inspections that went from s to t: how many it made, that its count says so, and that it made n unless the last one
 -- raised an interrupt or the unit stood still
-pub record Swept (n : ℕ) (s t : Going) : Type 0 where
+pub record Sweeping (n : ℕ) (s t : Going) : Type 0 where
   pub number : ℕ
   pub raised : Bool
   pub looks : Looks number raised s t
@@ -78,12 +80,12 @@ unfolding going
 runs-on s = inspection-runs (s .mux) (s .memory)
 
 -- every sweep is one
-pub swept : (n : ℕ) (s : Going) → Swept n s (sweepFrom n s)
-swept zero s =
+pub sweeps : (n : ℕ) (s : Going) → Sweeping n s (sweepFrom n s)
+sweeps zero s =
     rw (sweep-end s) (record { number = 0; raised = false; looks = none; few = omega arith; counted = omega arith; all = λ r b. refl })
-swept (suc n) s = go (s .mux .runs) refl (look s .said .answer .raised) refl (swept n (going s (look s)))
+sweeps (suc n) s = go (s .mux .runs) refl (look s .reply .answer .raised) refl (sweeps n (going s (look s)))
   where
-    go : (r : Bool) → s .mux .runs ≡ r → (i : Bool) → look s .said .answer .raised ≡ i → Swept n (going s (look s)) (sweepFrom n (going s (look s))) → Swept (suc n) s (sweepFrom (suc n) s)
+    go : (r : Bool) → s .mux .runs ≡ r → (i : Bool) → look s .reply .answer .raised ≡ i → Sweeping n (going s (look s)) (sweepFrom n (going s (look s))) → Sweeping (suc n) s (sweepFrom (suc n) s)
     go false er i ei rest =
         rw (sweep-stopped (suc n) s er)
         (record { number = 0; raised = false; looks = none; few = omega arith; counted = omega arith; all = λ r b. absurd (true≢false (sym r ∙ er)) })
@@ -114,16 +116,16 @@ pub record Listed (k : ℕ) (s t : Going) : Type 0 where
 -- one inspection
 pub one-listed : (s : Going) (l : Looked) → Listed 1 s (going s l)
 unfolding going entered pick bit
-one-listed s l = go (l .said .answer .sent)
+one-listed s l = go (l .reply .answer .sent)
   where
-    go : (b : Bool) → Listed 1 s (record { made = s .made + 1; used = s .used + bit b; mux = l .said .mux; memory = l .memory; list = pick b (set (s .list) (s .used) (entryOf (l .said .answer))) (s .list) })
+    go : (b : Bool) → Listed 1 s (record { made = s .made + 1; used = s .used + bit b; mux = l .world .mux; memory = l .world .memory; list = pick b (set (s .list) (s .used) (entryOf (l .reply .answer))) (s .list) })
     go true =
         record {
-          long = length-set (s .list) (s .used) (entryOf (l .said .answer));
+          long = length-set (s .list) (s .used) (entryOf (l .reply .answer));
           least = omega arith;
           most = omega arith;
-          before = λ i h. getD-set-other (s .list) (s .used) i (entryOf (l .said .answer)) 0 (omega arith);
-          past = λ i h. getD-set-other (s .list) (s .used) i (entryOf (l .said .answer)) 0 (omega arith);
+          before = λ i h. getD-set-other (s .list) (s .used) i (entryOf (l .reply .answer)) 0 (omega arith);
+          past = λ i h. getD-set-other (s .list) (s .used) i (entryOf (l .reply .answer)) 0 (omega arith);
         }
     go false = record { long = refl; least = omega arith; most = omega arith; before = λ i h. refl; past = λ i h. refl }
 
@@ -147,13 +149,13 @@ listed (more {s = s} r i rest) = then-listed (one-listed s (look s)) (listed res
 -- ---- the call
 
 -- a refused sweep gives its number, and counts and list 0 and as they were
-pub sweep-refused : (u : Mux) (m : List ℕ) (n : ℕ) (xs : List ℕ) → (refusal (ofSweep u m n xs) ≡ 0 → ⊥) → sweep u m n xs ≡ kept (refusal (ofSweep u m n xs)) u m xs
+pub sweep-refused : (u : Mux) (m : List ℕ) (n : ℕ) (xs : List ℕ) → (refusal (ofSweep u m n xs) ≡ 0 → ⊥) → sweep u m n xs ≡ outcome (refused (refusal (ofSweep u m n xs)) u) m xs
 unfolding sweep
 sweep-refused u m n xs h =
-    pick-false (eqb (refusal (ofSweep u m n xs)) 0) (arrivedAt (sweepFrom n (setOut u m xs))) (kept (refusal (ofSweep u m n xs)) u m xs) (ne-eqb _ _ h)
+    pick-false (eqb (refusal (ofSweep u m n xs)) 0) (arrivedAt (sweepFrom n (setOut u m xs))) (outcome (refused (refusal (ofSweep u m n xs)) u) m xs) (ne-eqb _ _ h)
 
 -- a sweep that is not refused
 pub sweep-done : (u : Mux) (m : List ℕ) (n : ℕ) (xs : List ℕ) → refusal (ofSweep u m n xs) ≡ 0 → sweep u m n xs ≡ arrivedAt (sweepFrom n (setOut u m xs))
 unfolding sweep
 sweep-done u m n xs e =
-    pick-true (eqb (refusal (ofSweep u m n xs)) 0) (arrivedAt (sweepFrom n (setOut u m xs))) (kept (refusal (ofSweep u m n xs)) u m xs) (eq-eqb _ _ e)
+    pick-true (eqb (refusal (ofSweep u m n xs)) 0) (arrivedAt (sweepFrom n (setOut u m xs))) (outcome (refused (refusal (ofSweep u m n xs)) u) m xs) (eq-eqb _ _ e)

@@ -1,0 +1,3 @@
+-- What follows from the definitions of one inspection. Nothing here need be believed.
+--   Scan   which inspection is a turn, which turn it is, and what a turn does and keeps
+pub mod Scan

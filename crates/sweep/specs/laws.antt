@@ -1,0 +1,3 @@
+-- What follows from the definition of a sweep. Nothing here need be believed.
+--   Sweep   how a sweep goes on, that it is the inspections it counts, and what it leaves in the list
+pub mod Sweep
