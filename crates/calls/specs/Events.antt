@@ -1,87 +1,141 @@
--- Tests of a single thing where it is made, each by what it answers.
---   answers, taken            a test of an inspection's answer; a call on the record that is not refused
---   counted, turnAt           an inspection that is a turn; port p's turn
---   inputAt, outputAt, echoAt     port p's turn that goes to input, to output, to input with an echo handed to the transmitter
---   arrivesAt, breaks         a character that port p takes; a stop, a reset or a new setup
+-- Lists of calls and host writes (document 01, what a proof here has to nail: "any list of calls and host writes").
+--   Event, happens, run    a call with the list that it is lent, or a host write; the world after one, and after a list
+--   Single, act, after     a single thing: a call that is no sweep, or a host write; what it answers and leaves
+--   runSingles             the world after a list of single things
+--   singlesOf, singles     the single things that an event comes to where it happens, a sweep being the inspections that it makes
+--   counted .. echoAt      tests of a single thing by what it answers
+--   arrivesAt, breaks      a character that port p takes; a stop, a reset or a new setup
+-- Not here: that running events is running their single things, in laws/Singles.
 -- Assumes nothing.
 use mathlib.Core.Bool.{Bool, true, false, _&&_}
+use mathlib.Core.List.{List, [], _∷_, _++_}
 use Prim.Native.Nat.{ℕ}
 use lib.Dec.{eqb}
-use Rattle.scan.specs.declared.Turn.the-variants.{Input, Output}
-use Rattle.scan.specs.declared.Answer.{Answer}
-use Rattle.scan.specs.Scan.{turnNumber}
-use Rattle.scan.specs.Laws.{counts}
-use Rattle.calls.specs.Calls.{Order, RESET, IOPLS, START, DOC, DOB, DIA, DIAS, TICK, Act, Setup, Arrival, Transmitted, DeviceStatus, Ask, Inspect, Write, World, Said, replied, inspected, swept, wrote, act}
+use lib.ListN.{replicate}
+use Rattle.ground.specs.Machine
+use Rattle.interrupt.specs.declared.Service.{Service}
+use Rattle.interrupt.specs.declared.Service.the-variants.{Input, Output}
+use Rattle.unit.specs.declared.mux.Setting.{Setting}
+use Rattle.unit.specs.declared.reply.Turn.the-variants.{Served}
+use Rattle.unit.specs.Reply.{turnNumber, counts, refused, World, world, Looked, looked}
+use Rattle.unit.specs.Setup.{setup}
+use Rattle.lines.specs.declared.signal.Signal.{Signal}
+use Rattle.lines.specs.declared.signal.Signal.the-variants.{Arrival, TransmitterEmpty, DeviceStatus}
+use Rattle.processor.specs.Processor.{stops}
+use Rattle.sweep.specs.Sweep.{sweep}
+use Rattle.calls.specs.declared.call.Act.{Act}
+use Rattle.calls.specs.declared.call.Act.the-variants.{Line, Processor, Inspect}
+use Rattle.calls.specs.declared.call.What.{What}
+use Rattle.calls.specs.declared.call.What.the-variants.{Setup, Do, Sweep}
+use Rattle.calls.specs.declared.call.Call.{Call}
+use Rattle.calls.specs.Calls.{setUp, done, step}
 
--- an inspection whose answer passes a test
-unfoldable pub answers : (Answer → Bool) → Said → Bool
-answers test (replied code value) = false
-answers test (inspected code answer) = test answer
-answers test (swept code made used list) = false
-answers test wrote = false
+-- ---- events
 
--- a call on the record that is not refused
-unfoldable pub taken : Said → Bool
-taken (replied code value) = eqb code 0
-taken (inspected code answer) = false
-taken (swept code made used list) = false
-taken wrote = false
+-- a call, with the list that it is lent; or a host write, which may put any words into the memory
+pub data Event : Type 0 where
+  calls : (c : Call) (list : List ℕ) → Event
+  hostWrites : (m : List ℕ) → Event
+
+-- the world after one event, and after a list of them, each on the record as the one before left it
+unfoldable pub happens : World → Event → World
+happens w (calls c list) = step w list c .world
+happens w (hostWrites m) = world (w .mux) m
+
+abbrev pub run : World → List Event → World
+run w es = Machine.run happens w es
+
+-- ---- single things
+
+-- a setup; one thing asked of the unit that stands; a host write
+pub data Single : Type 0 where
+  setsUp : (s : Setting) → Single
+  does : (a : Act) → Single
+  writes : (m : List ℕ) → Single
+
+-- what a single thing answers and leaves; a host write answers nothing
+unfoldable pub act : World → Single → Looked
+act w (setsUp s) = looked (setUp (w .mux) (setup s)) (w .memory)
+act w (does a) = done w a
+act w (writes m) = looked (refused 0 (w .mux)) m
+
+-- the world after one single thing, and after a list of them
+abbrev pub after : World → Single → World
+after w a = act w a .world
+
+abbrev pub runSingles : World → List Single → World
+runSingles w xs = Machine.run after w xs
+
+-- the single things that a call comes to where it is made: itself, or the inspections that a sweep makes
+unfoldable pub singlesIn : World → List ℕ → Setting → What → List Single
+singlesIn w list s Setup = setsUp s ∷ []
+singlesIn w list s (Do a) = does a ∷ []
+singlesIn w list s (Sweep n) = replicate (sweep (w .mux) (w .memory) n list .reply .made) (does Inspect)
+
+-- the single things that an event comes to, and a list of events
+unfoldable pub singlesOf : World → Event → List Single
+singlesOf w (calls c list) = singlesIn w list (c .setting) (c .what)
+singlesOf w (hostWrites m) = writes m ∷ []
+
+unfoldable pub singles : World → List Event → List Single
+singles w [] = []
+singles w (e ∷ es) = singlesOf w e ++ singles (happens w e) es
+
+-- ---- tests of a single thing where it is made, each by what it answers
 
 -- an inspection that counts: neither refused nor of a stopped unit
-unfoldable pub counted : World → Act → Bool
-counted w a = answers (λ r. counts (r .turn)) (act w a .said)
+unfoldable pub counted : World → Single → Bool
+counted w a = counts (act w a .reply .answer .turn)
 
 -- port p's turn
-unfoldable pub turnAt : ℕ → World → Act → Bool
-turnAt p w a = answers (λ r. counts (r .turn) && eqb (r .port) p) (act w a .said)
+unfoldable pub turnAt : ℕ → World → Single → Bool
+turnAt p w a = counted w a && eqb (act w a .reply .answer .port) p
 
--- port p's turn that goes to input
-unfoldable pub inputAt : ℕ → World → Act → Bool
-inputAt p w a = answers (λ r. eqb (turnNumber (r .turn)) (turnNumber Input) && eqb (r .port) p) (act w a .said)
+-- port p's turn that goes to a service
+unfoldable pub serviceAt : Service → ℕ → World → Single → Bool
+serviceAt k p w a = eqb (turnNumber (act w a .reply .answer .turn)) (turnNumber (Served k)) && eqb (act w a .reply .answer .port) p
 
--- port p's turn that goes to output
-unfoldable pub outputAt : ℕ → World → Act → Bool
-outputAt p w a = answers (λ r. eqb (turnNumber (r .turn)) (turnNumber Output) && eqb (r .port) p) (act w a .said)
+-- port p's turn that goes to input, and one that goes to output
+abbrev pub inputAt : ℕ → World → Single → Bool
+inputAt p w a = serviceAt Input p w a
+
+abbrev pub outputAt : ℕ → World → Single → Bool
+outputAt p w a = serviceAt Output p w a
 
 -- port p's turn that goes to input, with an echo that fills the transmitter
-unfoldable pub echoAt : ℕ → World → Act → Bool
-echoAt p w a = inputAt p w a && answers (λ r. r .sent) (act w a .said)
+unfoldable pub echoAt : ℕ → World → Single → Bool
+echoAt p w a = inputAt p w a && act w a .reply .answer .sent
 
--- a character's arrival at port p
-unfoldable pub isArrival : ℕ → Act → Bool
-isArrival p (Setup b n base) = false
-isArrival p (Arrival q c parity brk) = eqb q p
-isArrival p (Transmitted q) = false
-isArrival p (DeviceStatus q level) = false
-isArrival p (Ask o) = false
-isArrival p Inspect = false
-isArrival p (Write m) = false
+-- a call that is not refused
+unfoldable pub taken : World → Single → Bool
+taken w a = eqb (act w a .reply .code) 0
 
--- DOB or reset
-unfoldable pub stops : Order → Bool
-stops RESET = true
-stops IOPLS = false
-stops START = false
-stops DOC = false
-stops DOB = true
-stops DIA = false
-stops DIAS = false
-stops TICK = false
+-- an arrival, of the signals
+unfoldable pub isArrival : Signal → Bool
+isArrival (Arrival c parity brk) = true
+isArrival TransmitterEmpty = false
+isArrival (DeviceStatus level) = false
 
--- a stop, a reset or a setup
-unfoldable pub isBreak : Act → Bool
-isBreak (Setup b n base) = true
-isBreak (Arrival q c parity brk) = false
-isBreak (Transmitted q) = false
-isBreak (DeviceStatus q level) = false
-isBreak (Ask o) = stops o
-isBreak Inspect = false
-isBreak (Write m) = false
+-- an arrival at port p
+unfoldable pub bringsTo : ℕ → Single → Bool
+bringsTo p (setsUp s) = false
+bringsTo p (does (Line q e)) = eqb q p && isArrival e
+bringsTo p (does (Processor o)) = false
+bringsTo p (does Inspect) = false
+bringsTo p (writes m) = false
 
 -- a character that port p takes
-unfoldable pub arrivesAt : ℕ → World → Act → Bool
-arrivesAt p w a = isArrival p a && taken (act w a .said)
+unfoldable pub arrivesAt : ℕ → World → Single → Bool
+arrivesAt p w a = bringsTo p a && taken w a
+
+-- a stop, a reset or a setup
+unfoldable pub isBreak : Single → Bool
+isBreak (setsUp s) = true
+isBreak (does (Line q e)) = false
+isBreak (does (Processor o)) = stops o
+isBreak (does Inspect) = false
+isBreak (writes m) = false
 
 -- a stop, a reset or a new setup, not refused
-unfoldable pub breaks : World → Act → Bool
-breaks w a = isBreak a && taken (act w a .said)
+unfoldable pub breaks : World → Single → Bool
+breaks w a = isBreak a && taken w a

@@ -1,11 +1,9 @@
--- Everything that document 01 lets happen.
---   Calls      the calls, one step over record and memory, and its answer
---   Events     tests of a single thing by what it answers: a turn, an arrival, a stop
---   Acts       a list of calls as the single things that it comes to: a sweep is the inspections that it makes
---   Outcomes   any two outcomes that a contract allows are equal
---   Examples   the settled examples of document 01 marked *, and the values of the 1974 manual
+-- Everything that may be asked, as one type of calls with one step; lists of calls and host writes.
+--   Calls      one call: its step, and what it is given
+--   Events     lists of calls and host writes, the single things that they come to, and tests of a single thing
+--   Examples   the settled examples of document 01 and values of the 1974 manual
+-- What follows from them stands in laws/.
 pub mod Calls
 pub mod Events
-pub mod Acts
-pub mod Outcomes
 pub mod Examples
+pub mod laws

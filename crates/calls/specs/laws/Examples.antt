@@ -1,0 +1,83 @@
+-- The worked examples hold: each is computed.
+--   everything        every definition that a step of the unit computes with, named once
+--   starred, manual   the examples of document 01, and those of the 1974 manual
+-- Assumes nothing.
+use mathlib.Core.Path.{refl}
+use Rattle.ground.specs.Choose.{pick, bit, asked, firstOf}
+use Rattle.ground.specs.Machine
+use Rattle.words.specs.Field.{get, put}
+use Rattle.words.specs.Codes.{storedByte, wordByte, echoedByte}
+use Rattle.words.specs.Pointer.{atEnd}
+use Rattle.words.specs.Byte.{halfAt, byteAt, storeByte, wordIf, byteIf}
+use Rattle.words.specs.Special.{isSpecial}
+use Rattle.words.specs.Length.{lengthOf, spanOf, cut}
+use Rattle.words.specs.Speed.{speedOf}
+use Rattle.interrupt.specs.Interrupt as Interrupt
+use Rattle.interrupt.specs.Interrupt.{busy, moreMarked, serviceMarked, statusAfter, raised, started, ticked, shown}
+use Rattle.unit.specs.Record.{portAt, blockAt, addressAt}
+use Rattle.unit.specs.Reply.{counts, guarded}
+use Rattle.unit.specs.Refusals.{badBlock, badPorts, badBase, crosses, overruns, sizeRows, baseRows, areaRows, settingRows, unsound, rowsOf, callRows, tableOf, refusal}
+use Rattle.unit.specs.Setup.{setup}
+use Rattle.lines.specs.Lines.{signalled, line}
+use Rattle.processor.specs.Processor.{order}
+use Rattle.processor.specs.Processor as Processor
+use Rattle.input.specs.Input.{errorCode, ascii, replacedICW, doneICW, replacedPlan, donePlan, storedPlan, inputPlan, carried, inputService}
+use Rattle.output.specs.Output.{outDone, isAuto, autoPlan, controlPlan, singlePlan, outputPlan, differs, statusBits, becomesChanged, writtenOCW, outputService}
+use Rattle.scan.specs.Turn.{service, took, irqAfter, servedTurn, idleTurn, turn}
+use Rattle.scan.specs.Scan.{nextPos, serviceTurn, scanned, inspection}
+use Rattle.calls.specs.Calls.{setUp, done}
+use Rattle.calls.specs.Events.{act, counted, turnAt, serviceAt, echoAt}
+use Rattle.calls.specs.Examples.{turnsOf, Starred, Manual}
+
+-- every definition that a step of the unit computes with: to unfold this is to unfold them all
+unfoldable pub everything : Unit {0}
+unfolding pick bit asked firstOf Machine.run Machine.total get put storedByte wordByte echoedByte atEnd halfAt byteAt storeByte wordIf byteIf isSpecial lengthOf spanOf cut speedOf busy moreMarked serviceMarked statusAfter raised started ticked shown Interrupt.unsound portAt blockAt addressAt counts guarded badBlock badPorts badBase crosses overruns sizeRows baseRows areaRows settingRows unsound rowsOf callRows tableOf refusal setup signalled line Processor.after order errorCode ascii replacedICW doneICW replacedPlan donePlan storedPlan inputPlan carried inputService outDone isAuto autoPlan controlPlan singlePlan outputPlan differs statusBits becomesChanged writtenOCW outputService service took irqAfter servedTurn idleTurn turn nextPos serviceTurn scanned inspection setUp done act counted turnAt serviceAt echoAt turnsOf
+everything = tt
+
+pub starred : Starred
+unfolding everything
+starred =
+    record {
+      ports-120 = refl;
+      ports-121 = refl;
+      base-64 = refl;
+      base-32 = refl;
+      ports-32 = refl;
+      ports-33 = refl;
+      first-number = refl;
+      special-31 = refl;
+      special-124 = refl;
+      special-127 = refl;
+      ordinary-32 = refl;
+      ordinary-123 = refl;
+      first-byte = refl;
+      next-bytes = refl;
+      full-pointer = refl;
+      full-done = refl;
+      not-done-yet = refl;
+      wrapped = refl;
+      status-in = refl;
+      status-out = refl;
+      status-tick = refl;
+      fourth = refl;
+      first = refl;
+    }
+
+pub manual : Manual
+unfolding everything
+manual =
+    record {
+      controls = refl;
+      device-control = refl;
+      no-parity = refl;
+      two-stops = refl;
+      eight-bits = refl;
+      odd = refl;
+      speed = refl;
+      controls-done = refl;
+      line-down = refl;
+      line-down-still = refl;
+      line-up = refl;
+      line-up-ends = refl;
+      line-up-stays = refl;
+    }

@@ -1,0 +1,129 @@
+-- A sweep is the inspections that it makes: a list of events comes to a list of single things, with the same world after it.
+--   run-singles     running the events is running the single things that they come to
+--   sweep-counts    a sweep that is not refused makes exactly as many counted turns as it says
+-- Assumes nothing.
+use mathlib.Core.Path.{_≡_, refl, sym, _∙_, ap}
+use mathlib.Core.Bool.{Bool, true}
+use mathlib.Core.List.{List, [], _∷_}
+use Prim.Native.Nat.{ℕ}
+use native.Mathlib.Decide.{ℕ-discrete}
+use native.Mathlib.Omega.{arith}
+use native.Mathlib.Nat.{zero-add}
+use lib.ListN.{length, replicate}
+use Rattle.ground.specs.Choose.{bit}
+use Rattle.ground.specs.Machine
+use Rattle.ground.specs.Machine.{total, tally}
+use Rattle.ground.specs.laws.Machine.{run-append}
+use Rattle.unit.specs.declared.mux.Setting.{Setting}
+use Rattle.unit.specs.Reply.{World, world}
+use Rattle.unit.specs.Refusals.{WORDS, refusal, ofSweep}
+use Rattle.unit.specs.Sound.{Sound}
+use Rattle.unit.specs.laws.Sound.{sweep-iff}
+use Rattle.scan.specs.Scan.{scanned}
+use Rattle.scan.specs.laws.Scan.{sound-counted, scan-moves, moves-sound}
+use Rattle.sweep.specs.Sweep.{Going, going, setOut, sweep}
+use Rattle.sweep.specs.laws.Sweep.{look, Looks, none, last, more, sweeps, sweep-refused, sweep-done}
+use Rattle.calls.specs.declared.call.Act.the-variants.{Inspect}
+use Rattle.calls.specs.declared.call.What.{What}
+use Rattle.calls.specs.declared.call.What.the-variants.{Setup, Do, Sweep}
+use Rattle.calls.specs.Calls.{done, stepOf}
+use Rattle.calls.specs.Events.{Event, calls, hostWrites, happens, run, Single, does, act, after, runSingles, singlesIn, singlesOf, singles, counted}
+
+-- ---- a sweep
+
+-- where a sweep on its way stands
+abbrev at : Going → World
+at s = world (s .mux) (s .memory)
+
+-- an inspection of a sweep on its way
+inspect-at : (s : Going) → after (at s) (does Inspect) ≡ at (going s (look s))
+unfolding act done going
+inspect-at s = refl
+
+-- inspections one after the other
+looks-run : {k : ℕ} {b : Bool} {s t : Going} → Looks k b s t → runSingles (at s) (replicate k (does Inspect)) ≡ at t
+unfolding Machine.run
+looks-run none = refl
+looks-run (last {s = s} r i) = inspect-at s
+looks-run (more {k = k} {s = s} r i rest) = ap (λ w. runSingles w (replicate k (does Inspect))) (inspect-at s) ∙ looks-run rest
+
+-- a sweep on its way that may go on: the unit is sound, and the memory has its words
+record Ready (s : Going) : Type 0 where
+  sound : Sound (s .mux)
+  words : length (s .memory) ≡ WORDS
+
+-- its next inspection counts
+look-counts : (s : Going) → Ready s → s .mux .runs ≡ true → counted (at s) (does Inspect) ≡ true
+unfolding counted act done
+look-counts s h r = rw (sound-counted (s .mux) (s .memory) (h .sound) r (h .words)) (scan-moves (s .mux) (s .memory) .counted)
+
+-- and it may go on after that
+look-ready : (s : Going) → Ready s → s .mux .runs ≡ true → Ready (going s (look s))
+unfolding going
+look-ready s h r =
+    let e = sound-counted (s .mux) (s .memory) (h .sound) r (h .words) in
+    let t = scan-moves (s .mux) (s .memory) in
+    record {
+      sound = rw e (moves-sound (s .mux) (s .memory) (scanned (s .mux) (s .memory)) t (h .sound));
+      words = rw e (t .words ∙ h .words);
+    }
+
+-- each of them counts
+looks-count : {k : ℕ} {b : Bool} {s t : Going} → Ready s → Looks k b s t → tally after counted (at s) (replicate k (does Inspect)) ≡ k
+unfolding total bit
+looks-count h none = refl
+looks-count h (last {s = s} r i) = rw (look-counts s h r)
+looks-count h (more {k = k} {s = s} r i rest) =
+    rw (look-counts s h r, inspect-at s)
+    (omega (arith, looks-count (look-ready s h r) rest))
+
+-- ---- the calls
+
+module _ (w : World) (n : ℕ) (list : List ℕ) where
+  -- a sweep that is not refused says how many it made
+  says-made : refusal (ofSweep (w .mux) (w .memory) n list) ≡ 0 → sweep (w .mux) (w .memory) n list .reply .made ≡ sweeps n (setOut (w .mux) (w .memory) list) .number
+  says-made e =
+      let t = sweeps n (setOut (w .mux) (w .memory) list) in
+      ap (λ g. g .reply .made) (sweep-done (w .mux) (w .memory) n list e) ∙ t .counted ∙ zero-add (t .number)
+
+  -- a sweep comes to the inspections that it makes
+  sweep-singles : runSingles w (replicate (sweep (w .mux) (w .memory) n list .reply .made) (does Inspect)) ≡ sweep (w .mux) (w .memory) n list .world
+  unfolding Machine.run
+  sweep-singles = go (ℕ-discrete (refusal (ofSweep (w .mux) (w .memory) n list)) 0)
+    where
+      go : Dec (refusal (ofSweep (w .mux) (w .memory) n list) ≡ 0) → runSingles w (replicate (sweep (w .mux) (w .memory) n list .reply .made) (does Inspect)) ≡ sweep (w .mux) (w .memory) n list .world
+      go (yes e) =
+          ap (λ k. runSingles w (replicate k (does Inspect))) (says-made e)
+          ∙ looks-run (sweeps n (setOut (w .mux) (w .memory) list) .looks)
+          ∙ ap (λ g. g .world) (sym (sweep-done (w .mux) (w .memory) n list e))
+      go (no h) = rw (sweep-refused (w .mux) (w .memory) n list h)
+
+  -- a sweep that is not refused makes exactly as many counted turns as it says
+  pub sweep-counts : (s : Setting) → refusal (ofSweep (w .mux) (w .memory) n list) ≡ 0 → tally after counted w (singlesIn w list s (Sweep n)) ≡ sweep (w .mux) (w .memory) n list .reply .made
+  unfolding singlesIn
+  sweep-counts s e =
+      let t = sweep-iff (w .mux) (w .memory) n list .0 e in
+      rw (says-made e)
+      (looks-count (record { sound = t .sound; words = t .words }) (sweeps n (setOut (w .mux) (w .memory) list) .looks))
+
+-- a call comes to its single things
+call-singles : (w : World) (list : List ℕ) (s : Setting) (a : What) → runSingles w (singlesIn w list s a) ≡ stepOf w list s a .world
+unfolding singlesIn stepOf act Machine.run
+call-singles w list s Setup = refl
+call-singles w list s (Do a) = refl
+call-singles w list s (Sweep n) = sweep-singles w n list
+
+-- an event comes to its single things
+event-singles : (w : World) (e : Event) → runSingles w (singlesOf w e) ≡ happens w e
+unfolding singlesOf happens act Machine.run
+event-singles w (calls c list) = call-singles w list (c .setting) (c .what)
+event-singles w (hostWrites m) = refl
+
+-- running a list of events is running the single things that it comes to
+pub run-singles : (w : World) (es : List Event) → run w es ≡ runSingles w (singles w es)
+unfolding singles Machine.run
+run-singles w [] = refl
+run-singles w (e ∷ es) =
+    run-singles (happens w e) es
+    ∙ ap (λ v. runSingles v (singles (happens w e) es)) (sym (event-singles w e))
+    ∙ sym (run-append after w (singlesOf w e) (singles (happens w e) es))
