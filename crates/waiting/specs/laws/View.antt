@@ -1,0 +1,277 @@
+-- What one single thing does to port p, of any world, sound or not, running or not: the one case analysis of demand 3. No service is opened.
+--   Stays, Leaves         the position stays, and a unit that runs runs on; a port holds what it held, an empty transmitter stays empty
+--   View, view            a turn; a character that port p takes; a stop, reset or new setup; or something that leaves port p
+--   turn-counts, Moved, turn-moves   a turn counts; what it does to a running unit
+-- Not here: which turn it is, in scan, laws/Scan.
+-- Assumes nothing.
+use mathlib.Core.Path.{_≡_, refl, sym, _∙_, ap, subst}
+use mathlib.Core.Bool.{true, false}
+use mathlib.Core.List.{List, [], _∷_, map}
+use mathlib.Core.Logic.{_⊎_, inl, inr}
+use Prim.Native.Nat.{ℕ, zero, suc, _+_, _%_}
+use native.Mathlib.Decide.{ℕ-discrete}
+use lib.ListN.{getD, replicate}
+use borrow.Author.Tests.{eq-eqb}
+use Rattle.ground.specs.Choose.{pick}
+use Rattle.unit.specs.declared.mux.Setting.{Setting}
+use Rattle.unit.specs.declared.mux.Port.{Port}
+use Rattle.unit.specs.declared.mux.Mux.{Mux}
+use Rattle.unit.specs.Record.{noPort, freshPort, fresh, portAt}
+use Rattle.unit.specs.Reply.{counts, refused, accepted, World, world, Looked, looked}
+use Rattle.unit.specs.Refusals.{refusal, ofSetup, ofUnit, ofPort}
+use Rattle.unit.specs.laws.Replies.{setup-done}
+use Rattle.unit.specs.laws.Ports.{empty-inside}
+use Rattle.lines.specs.declared.signal.Signal.{Signal}
+use Rattle.lines.specs.declared.signal.Signal.the-variants.{Arrival, TransmitterEmpty, DeviceStatus}
+use Rattle.lines.specs.Lines.{signalled, line}
+use Rattle.lines.specs.laws.Lines.{line-refused, line-done, line-keeps, line-sound, line-written, arrived, Marked, replaced}
+use Rattle.processor.specs.declared.orders.Order.{Order}
+use Rattle.processor.specs.declared.orders.Order.the-variants.{Reset, Iopls, Start, Doc, Dob, Dia, Dias, Tick}
+use Rattle.processor.specs.Processor.{resetPort, order, stops}
+use Rattle.processor.specs.Processor as Processor
+use Rattle.processor.specs.laws.Processor.{order-refused, order-done, isReset, order-keeps, order-stays-sound, runs-on}
+use Rattle.scan.specs.Scan.{scanned}
+use Rattle.scan.specs.laws.Scan.{Kind, takes-turn, stands-still, kind, scan-moves, moves-sound}
+use Rattle.calls.specs.declared.call.Act.the-variants.{Line, Processor, Inspect}
+use Rattle.calls.specs.Calls.{settingUp, setUp, done, stepOf, givenOf}
+use Rattle.calls.specs.laws.Refusals.{step-refuses}
+use Rattle.calls.specs.Events.{Single, setsUp, does, writes, act, after, counted, taken, isArrival, bringsTo, arrivesAt, isBreak, breaks}
+use Rattle.waiting.specs.Waiting.{P, Running, Empty}
+
+-- the position stays, and a unit that runs runs on
+pub record Stays (w v : World) : Type 0 where
+  pub running : Running w → Running v
+  pub ports : P v ≡ P w
+  pub pos : v .mux .pos ≡ w .mux .pos
+
+-- a port that holds what it held, and whose transmitter is still empty if it was
+pub record Leaves (x y : Port) : Type 0 where
+  pub held : y .held ≡ x .held
+  pub same : y .ch ≡ x .ch
+  pub empty : x .empty ≡ true → y .empty ≡ true
+
+module _ (p : ℕ) (w : World) (a : Single) where
+  -- port p before and after
+  abbrev now : Port
+  now = portAt (w .mux) p
+
+  abbrev then : Port
+  then = portAt (after w a .mux) p
+
+  -- what a single thing does
+  pub data View : Type 0 where
+    turn : a ≡ does Inspect → act w a ≡ scanned (w .mux) (w .memory) → View
+    arrives : counted w a ≡ false → arrivesAt p w a ≡ true → Stays w (after w a) → (Empty p w → Empty p (after w a)) → (now .held ≡ true → Marked then) → View
+    stop : counted w a ≡ false → breaks w a ≡ true → (then .held ≡ false) ⊎ (then .held ≡ now .held) → View
+    quiet : counted w a ≡ false → Stays w (after w a) → Leaves now then → View
+
+-- a port that is as it was
+pub leaves-same : (x y : Port) → y ≡ x → Leaves x y
+leaves-same x y e = rw e (record { held = refl; same = refl; empty = λ i. i })
+
+-- ---- refused or not
+
+-- what is refused, or done to a stopped unit, leaves everything
+refused-view : (p : ℕ) (w : World) (a : Single) (k : ℕ) → act w a ≡ looked (refused k (w .mux)) (w .memory) → View p w a
+unfolding counted counts
+refused-view p w a k e =
+    quiet
+    (ap (λ l. counts (l .reply .answer .turn)) e)
+    (subst (λ (v : World). Stays w v) (sym (ap (λ l. l .world) e)) (record { running = λ r. r; ports = refl; pos = refl }))
+    (leaves-same _ _ (ap (λ l. portAt (l .world .mux) p) e))
+
+-- a single thing that is done and is no inspection: no turn, and not refused
+record Accepted (w : World) (a : Single) : Type 0 where
+  uncounted : counted w a ≡ false
+  unrefused : taken w a ≡ true
+
+accepts : (w : World) (a : Single) (v : ℕ) (u : Mux) → act w a ≡ looked (accepted v u) (w .memory) → Accepted w a
+unfolding counted counts taken
+accepts w a v u e = record { uncounted = ap (λ l. counts (l .reply .answer .turn)) e; unrefused = rw e }
+
+-- ---- a setup
+
+-- no port of a fresh unit holds anything
+fresh-held : (n p : ℕ) → getD (replicate n freshPort) p noPort .held ≡ false
+fresh-held zero p = refl
+fresh-held (suc n) zero = refl
+fresh-held (suc n) (suc p) = fresh-held n p
+
+-- a setup that is taken drops everything, and a refused one leaves the record that stands
+setup-view : (p : ℕ) (w : World) (s : Setting) → View p w (setsUp s)
+unfolding act setUp pick breaks isBreak portAt stepOf givenOf
+setup-view p w s = go (ℕ-discrete (refusal (ofSetup s)) 0)
+  where
+    go : Dec (refusal (ofSetup s) ≡ 0) → View p w (setsUp s)
+    go (no h) =
+        refused-view p w (setsUp s) _ (ap (λ o. record { reply = o .reply; world = o .world }) (step-refuses w [] (settingUp s) .keeps h))
+    go (yes z) =
+        let d = accepts w (setsUp s) 0 (fresh s) (rw (setup-done s z)) in
+        stop (d .uncounted) (d .unrefused) (inl (rw (setup-done s z) (fresh-held 128 p)))
+
+-- ---- the lines
+
+module _ (w : World) (q : ℕ) (e : Signal) where
+  -- a signal leaves the position, and a unit that runs runs on
+  pub line-stays : Stays w (after w (does (Line q e)))
+  unfolding act done
+  line-stays =
+      let k = line-keeps (w .mux) q e in
+      record {
+        running = λ r. record { sound = line-sound (w .mux) q e (r .sound); runs = k .runs ∙ r .runs };
+        ports = ap (λ s. s .ports) (k .setting);
+        pos = k .pos;
+      }
+
+  -- one that is not refused
+  line-accepted : refusal (ofPort (w .mux) q) ≡ 0 → Accepted w (does (Line q e))
+  unfolding act done
+  line-accepted z = accepts w (does (Line q e)) 0 _ (ap (λ r. looked r (w .memory)) (line-done (w .mux) q e z))
+
+  -- it is quiet where it leaves what port p holds
+  line-quiet : (p : ℕ) → refusal (ofPort (w .mux) q) ≡ 0 → Leaves (portAt (w .mux) p) (portAt (line (w .mux) q e .mux) p) → View p w (does (Line q e))
+  unfolding act done
+  line-quiet p z l = quiet (line-accepted z .uncounted) line-stays l
+
+-- at port p itself, a signal that leaves what it holds
+own-quiet : (p : ℕ) (w : World) (e : Signal) → refusal (ofPort (w .mux) p) ≡ 0 → Leaves (portAt (w .mux) p) (signalled (portAt (w .mux) p) e) → View p w (does (Line p e))
+own-quiet p w e z l = line-quiet w p e p z (go (line-written (w .mux) p e))
+  where
+    go : (portAt (line (w .mux) p e .mux) p ≡ signalled (portAt (w .mux) p) e) ⊎ (portAt (line (w .mux) p e .mux) p ≡ portAt (w .mux) p) → Leaves (portAt (w .mux) p) (portAt (line (w .mux) p e .mux) p)
+    go (inl g) = rw g l
+    go (inr g) = leaves-same _ _ g
+
+-- at port p itself: a character replaces one that was held, with the mark; no other signal touches what is held
+own-line : (p : ℕ) (w : World) (e : Signal) → refusal (ofPort (w .mux) p) ≡ 0 → View p w (does (Line p e))
+unfolding act done arrivesAt bringsTo isArrival signalled
+own-line p w (Arrival c parity brk) z =
+    let d = line-accepted w p (Arrival c parity brk) z in
+    arrives
+    (d .uncounted)
+    (rw (eq-eqb p p refl) (d .unrefused))
+    (line-stays w p (Arrival c parity brk))
+    (λ f. ap (λ y. y .empty) (arrived (w .mux) p c parity brk z (empty-inside (w .mux) p f)) ∙ f)
+    (λ h. replaced (w .mux) p c parity brk h z)
+own-line p w TransmitterEmpty z = own-quiet p w TransmitterEmpty z (record { held = refl; same = refl; empty = λ i. refl })
+own-line p w (DeviceStatus level) z = own-quiet p w (DeviceStatus level) z (record { held = refl; same = refl; empty = λ i. i })
+
+-- a signal: refused, at another port, or at port p
+line-view : (p : ℕ) (w : World) (q : ℕ) (e : Signal) → View p w (does (Line q e))
+unfolding act done
+line-view p w q e = go (ℕ-discrete (refusal (ofPort (w .mux) q)) 0) (ℕ-discrete q p)
+  where
+    go : Dec (refusal (ofPort (w .mux) q) ≡ 0) → Dec (q ≡ p) → View p w (does (Line q e))
+    go (no h) d = refused-view p w (does (Line q e)) _ (ap (λ r. looked r (w .memory)) (line-refused (w .mux) q e h))
+    go (yes z) (no h) = line-quiet w q e p z (leaves-same _ _ (line-keeps (w .mux) q e .others p (λ g. h (sym g))))
+    go (yes z) (yes g) = rw g (own-line p w e (rw g at z))
+
+-- ---- the processor
+
+-- no port holds anything after reset
+reset-held : (l : List Port) (p : ℕ) → getD (map resetPort l) p noPort .held ≡ false
+unfolding resetPort
+reset-held [] p = refl
+reset-held (q ∷ l) zero = refl
+reset-held (q ∷ l) (suc p) = reset-held l p
+
+module _ (p : ℕ) (w : World) where
+  -- every order but reset leaves port p
+  order-leaves : (o : Order) → isReset o ≡ false → portAt (order (w .mux) o .mux) p ≡ portAt (w .mux) p
+  unfolding portAt
+  order-leaves o h = ap (λ l. getD l p noPort) (order-keeps (w .mux) o h .port)
+
+  -- an order that is not refused
+  order-accepted : (o : Order) → refusal (ofUnit (w .mux)) ≡ 0 → Accepted w (does (Processor o))
+  unfolding act done
+  order-accepted o z = accepts w (does (Processor o)) _ _ (ap (λ r. looked r (w .memory)) (order-done (w .mux) o z))
+
+  -- an order that neither resets nor stops the unit
+  order-quiet : (o : Order) → isReset o ≡ false → stops o ≡ false → refusal (ofUnit (w .mux)) ≡ 0 → View p w (does (Processor o))
+  unfolding act done
+  order-quiet o h n z =
+      let k = order-keeps (w .mux) o h in
+      quiet
+      (order-accepted o z .uncounted)
+      (record {
+        running = λ r. record { sound = order-stays-sound (w .mux) o (r .sound); runs = runs-on (w .mux) o n (r .runs) };
+        ports = ap (λ s. s .ports) (k .setting);
+        pos = k .pos;
+      })
+      (leaves-same _ _ (order-leaves o h))
+
+  -- each order, not refused
+  own-order : (o : Order) → refusal (ofUnit (w .mux)) ≡ 0 → View p w (does (Processor o))
+  unfolding act done breaks isBreak portAt Processor.after
+  own-order Reset z =
+      let d = order-accepted Reset z in
+      stop (d .uncounted) (d .unrefused) (inl (rw (order-done (w .mux) Reset z) (reset-held (w .mux .port) p)))
+  own-order Dob z =
+      let d = order-accepted Dob z in
+      stop (d .uncounted) (d .unrefused) (inr (ap (λ q. q .held) (order-leaves Dob refl)))
+  own-order Iopls z = order-quiet Iopls refl refl z
+  own-order Start z = order-quiet Start refl refl z
+  own-order Doc z = order-quiet Doc refl refl z
+  own-order Dia z = order-quiet Dia refl refl z
+  own-order Dias z = order-quiet Dias refl refl z
+  own-order Tick z = order-quiet Tick refl refl z
+
+  -- an order
+  order-view : (o : Order) → View p w (does (Processor o))
+  unfolding act done
+  order-view o = go (ℕ-discrete (refusal (ofUnit (w .mux))) 0)
+    where
+      go : Dec (refusal (ofUnit (w .mux)) ≡ 0) → View p w (does (Processor o))
+      go (yes z) = own-order o z
+      go (no h) = refused-view p w (does (Processor o)) _ (ap (λ r. looked r (w .memory)) (order-refused (w .mux) o h))
+
+-- ---- an inspection, and a host write
+
+-- a turn, or nothing at all
+inspect-view : (p : ℕ) (w : World) → View p w (does Inspect)
+unfolding act done
+inspect-view p w = go (kind (w .mux) (w .memory))
+  where
+    go : Kind (w .mux) (w .memory) → View p w (does Inspect)
+    go (takes-turn e s t) = turn refl t
+    go (stands-still k e t) = refused-view p w (does Inspect) k t
+
+-- the memory is no part of what waits
+write-view : (p : ℕ) (w : World) (m : List ℕ) → View p w (writes m)
+unfolding act counted counts
+write-view p w m =
+    quiet refl (record { running = λ r. record { sound = r .sound; runs = r .runs }; ports = refl; pos = refl }) (leaves-same _ _ refl)
+
+-- every single thing
+pub view : (p : ℕ) (w : World) (a : Single) → View p w a
+view p w (setsUp s) = setup-view p w s
+view p w (does (Line q e)) = line-view p w q e
+view p w (does (Processor o)) = order-view p w o
+view p w (does Inspect) = inspect-view p w
+view p w (writes m) = write-view p w m
+
+-- ---- a turn
+
+-- it counts
+pub turn-counts : (w : World) (a : Single) → act w a ≡ scanned (w .mux) (w .memory) → counted w a ≡ true
+unfolding counted
+turn-counts w a e = rw e (scan-moves (w .mux) (w .memory) .counted)
+
+-- the unit runs on, one position further; every port but the one whose turn it was is as it was
+pub record Moved (p : ℕ) (w v : World) : Type 0 where
+  pub running : Running w → Running v
+  pub ports : P v ≡ P w
+  pub pos : v .mux .pos ≡ (w .mux .pos + 1) % P w
+  pub other : (w .mux .pos ≡ p → ⊥) → portAt (v .mux) p ≡ portAt (w .mux) p
+
+-- every turn
+pub turn-moves : (p : ℕ) (w : World) (a : Single) → act w a ≡ scanned (w .mux) (w .memory) → Moved p w (after w a)
+turn-moves p w a e =
+    let l = scanned (w .mux) (w .memory) in
+    let t = scan-moves (w .mux) (w .memory) in
+    subst (λ (x : Looked). Moved p w (x .world)) (sym e)
+    (record {
+      running = λ r. record { sound = moves-sound (w .mux) (w .memory) l t (r .sound); runs = t .runs ∙ r .runs };
+      ports = ap (λ s. s .ports) (t .setting);
+      pos = t .position;
+      other = λ h. t .others p (λ g. h (sym g));
+    })
