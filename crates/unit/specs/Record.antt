@@ -1,13 +1,15 @@
 -- The record of the unit (document 01, the unit and the host's memory).
 --   noCharacter, noPort, noSetting, noMux   all zeros
---   portAt, withPort                        a port of the record, and the record with another port in its place
+--   portAt, remade, withPort                a port of the record, the record with other parts, and with another port in its place
 --   freshPort, fresh                        what setup makes
 --   blockAt, addressAt                      where a port's control block lies, and the address that the status word names it by
 -- Not here: which records are sound, in Sound; what follows, in laws/Ports.
 -- Assumes nothing.
-use mathlib.Core.Bool.{true, false}
+use mathlib.Core.Bool.{Bool, true, false}
+use mathlib.Core.List.{List}
 use Prim.Native.Nat.{ℕ, _+_, _*_, _/_, _%_}
 use lib.ListN.{getD, set, replicate}
+use Rattle.interrupt.specs.declared.Irq.{Irq}
 use Rattle.interrupt.specs.Interrupt as Interrupt
 use Rattle.unit.specs.declared.mux.Setting.{Setting}
 use Rattle.unit.specs.declared.mux.Character.{Character}
@@ -46,17 +48,14 @@ noMux =
 unfoldable pub portAt : Mux → ℕ → Port
 portAt u p = getD (u .port) p noPort
 
+-- the record with its setting kept and all else given: every change of a record is written with it
+abbrev pub remade : Mux → ℕ → Bool → Bool → Irq → List Port → Mux
+remade u pos runs clock irq port =
+    record { setting = u .setting; pos = pos; runs = runs; clock = clock; irq = irq; port = port }
+
 -- the record with q as its port p
 abbrev pub withPort : Mux → ℕ → Port → Mux
-withPort u p q =
-    record {
-      setting = u .setting;
-      pos = u .pos;
-      runs = u .runs;
-      clock = u .clock;
-      irq = u .irq;
-      port = set (u .port) p q;
-    }
+withPort u p q = remade u (u .pos) (u .runs) (u .clock) (u .irq) (set (u .port) p q)
 
 -- the first word of port p's control block
 unfoldable pub blockAt : Setting → ℕ → ℕ

@@ -1,5 +1,6 @@
 -- A sound record, part by part: what the table of refusals lets pass, in numbers. That it is exactly that is proved in laws/Sound.
---   IsBlock, Fits   a block size, a setting that setup takes
+--   IsBlock         a block size
+--   SizeFits, BaseFits, AreaFits, Fits   a setting that setup takes, by the parts of its table
 --   Sound           a record that row 6 does not refuse
 --   AllPorts        a record with its 128 ports
 -- Assumes nothing.
@@ -10,6 +11,7 @@ use lib.ListN.{length}
 use Rattle.interrupt.specs.Interrupt as Interrupt
 use Rattle.unit.specs.declared.mux.Setting.{Setting}
 use Rattle.unit.specs.declared.mux.Mux.{Mux}
+use Rattle.unit.specs.Refusals.{WORDS, MOST-PORTS}
 
 -- a block is 8, 16 or 32 words
 pub data IsBlock (b : ℕ) : Type 0 where
@@ -17,15 +19,27 @@ pub data IsBlock (b : ℕ) : Type 0 where
   sixteen : b ≡ 16 → IsBlock b
   thirty-two : b ≡ 32 → IsBlock b
 
--- a setting that setup takes: no row of 1 to 5 applies
-pub record Fits (s : Setting) : Type 0 where
+-- rows 1 and 2 do not apply: the sizes
+pub record SizeFits (s : Setting) : Type 0 where
   pub block : IsBlock (s .block)
   pub some-port : 0 < s .ports
-  pub few-ports : s .ports ≤ 128
+  pub few-ports : s .ports ≤ MOST-PORTS
+
+-- row 3 does not: the base
+pub record BaseFits (s : Setting) : Type 0 where
   pub aligned : s .base % (8 * s .block) ≡ 0
-  pub low-base : s .base ≤ 32767
-  pub one-area : s .base / (128 * s .block) ≡ (s .base + s .ports * s .block - 1) / (128 * s .block)
-  pub inside : s .base + s .ports * s .block ≤ 32768
+  pub low : s .base ≤ 32767
+
+-- rows 4 and 5 do not: the area
+pub record AreaFits (s : Setting) : Type 0 where
+  pub one : s .base / (128 * s .block) ≡ (s .base + s .ports * s .block - 1) / (128 * s .block)
+  pub inside : s .base + s .ports * s .block ≤ WORDS
+
+-- a setting that setup takes: no row of 1 to 5 applies
+pub record Fits (s : Setting) : Type 0 where
+  pub size : SizeFits s
+  pub base : BaseFits s
+  pub area : AreaFits s
 
 -- a sound record: setup would take its setting, its position is below P, its interrupt side is sound
 pub record Sound (u : Mux) : Type 0 where
@@ -35,4 +49,4 @@ pub record Sound (u : Mux) : Type 0 where
 
 -- the record has its 128 ports: every record of the code does
 abbrev pub AllPorts : Mux → Type 0
-AllPorts u = length (u .port) ≡ 128
+AllPorts u = length (u .port) ≡ MOST-PORTS

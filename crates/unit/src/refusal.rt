@@ -2,9 +2,9 @@
 use crate::mux::Mux;
 use crate::mux::Setting;
 ghost use mathlib.Core.Path.{_≡_};
-ghost use Prim.Native.Nat.{_<_, _≤_};
 ghost use Rattle.ground.specs.Choose.{firstOf};
 ghost use Rattle.unit.specs.Refusals.{badBlock, badPorts, badBase, crosses, overruns, sizeRows, baseRows, areaRows, refusal, ofSetup, ofUnit, ofPort, ofInspection, ofSweep, unsound};
+ghost use Rattle.unit.specs.Sound.{SizeFits, BaseFits};
 
 // How many words of memory are lent, how many ports a unit may have, how many inspections a sweep may ask for.
 pub const WORDS: usize = 32768;
@@ -58,34 +58,33 @@ fn bad_ports(n: u32) -> bool
 }
 
 // Row 3: the base is not a multiple of 8b, or is above 32767.
-fn bad_base(b: u32, a: u32) -> bool
-    requires { ⌜ (0 < b) × (b ≤ 32) ⌝ }
-    ensures { λ r. ⌜ r ≡ badBase b a ⌝ }
+fn bad_base(s: Setting) -> bool
+    requires { ⌜ SizeFits s ⌝ }
+    ensures { λ r. ⌜ r ≡ badBase (s .block) (s .base) ⌝ }
 {
-    if a % (8 * b) != 0 {
+    if s.base % (8 * s.block) != 0 {
         return true;
     }
-    32767 < a
+    32767 < s.base
 }
 
 // Row 4: the area crosses a multiple of 128b.
-fn crosses(b: u32, n: u32, a: u32) -> bool
-    requires { ⌜ (0 < b) × (b ≤ 32) ⌝ }
-    requires { ⌜ (0 < n) × (n ≤ 128) ⌝ }
-    requires { ⌜ a ≤ 32767 ⌝ }
-    ensures { λ r. ⌜ r ≡ crosses b n a ⌝ }
+fn crosses(s: Setting) -> bool
+    requires { ⌜ SizeFits s ⌝ }
+    requires { ⌜ BaseFits s ⌝ }
+    ensures { λ r. ⌜ r ≡ crosses (s .block) (s .ports) (s .base) ⌝ }
 {
-    a / (128 * b) != (a + n * b - 1) / (128 * b)
+    let span = 128 * s.block;
+    s.base / span != (s.base + s.ports * s.block - 1) / span
 }
 
 // Row 5: the area ends past word 32768.
-fn overruns(b: u32, n: u32, a: u32) -> bool
-    requires { ⌜ b ≤ 32 ⌝ }
-    requires { ⌜ n ≤ 128 ⌝ }
-    requires { ⌜ a ≤ 32767 ⌝ }
-    ensures { λ r. ⌜ r ≡ overruns b n a ⌝ }
+fn overruns(s: Setting) -> bool
+    requires { ⌜ SizeFits s ⌝ }
+    requires { ⌜ BaseFits s ⌝ }
+    ensures { λ r. ⌜ r ≡ overruns (s .block) (s .ports) (s .base) ⌝ }
 {
-    32768 < a + n * b
+    32768 < s.base + s.ports * s.block
 }
 
 // Rows 1 and 2: the sizes.
@@ -103,10 +102,10 @@ fn size_code(s: Setting) -> u8
 
 // Row 3: the base.
 fn base_code(s: Setting) -> u8
-    requires { ⌜ firstOf (sizeRows s) ≡ 0 ⌝ }
+    requires { ⌜ SizeFits s ⌝ }
     ensures { λ r. ⌜ r ≡ firstOf (baseRows s) ⌝ }
 {
-    if bad_base(s.block, s.base) {
+    if bad_base(s) {
         return BAD_BASE;
     }
     0
@@ -114,14 +113,14 @@ fn base_code(s: Setting) -> u8
 
 // Rows 4 and 5: the area.
 fn area_code(s: Setting) -> u8
-    requires { ⌜ firstOf (sizeRows s) ≡ 0 ⌝ }
-    requires { ⌜ firstOf (baseRows s) ≡ 0 ⌝ }
+    requires { ⌜ SizeFits s ⌝ }
+    requires { ⌜ BaseFits s ⌝ }
     ensures { λ r. ⌜ r ≡ firstOf (areaRows s) ⌝ }
 {
-    if crosses(s.block, s.ports, s.base) {
+    if crosses(s) {
         return CROSSES;
     }
-    if overruns(s.block, s.ports, s.base) {
+    if overruns(s) {
         return OVERRUNS;
     }
     0

@@ -3,13 +3,14 @@
 --   or-false, or-true     what an `or` of tests says of its two tests
 --   Gives, first-gives    a table gives a number: the rows before it do not apply, and its own does; 0 where no row applies
 --   Passed, first-zero    a table of numbers other than 0 gives 0 exactly where no row of it applies
---   first-then, first-stops   a table that is two tables, one after the other
+--   first-then, first-stops, first-both   a table that is two tables, one after the other
 -- Assumes nothing.
 use mathlib.Core.Path.{_≡_, refl, sym, _∙_}
 use mathlib.Core.Bool.{Bool, true, false, _&&_, _||_}
 use mathlib.Core.List.{List, [], _∷_, _++_}
 use mathlib.Core.Logic.{_↔_, _⊎_, inl, inr}
 use Prim.Native.Nat.{ℕ, _<_}
+use native.Mathlib.Decide.{ℕ-discrete}
 use native.Mathlib.Omega.{arith}
 use lib.Dec.{ltb}
 use borrow.Author.Tests.{ltb-true}
@@ -117,3 +118,11 @@ first-stops (r ∷ rs) ss h = go (r .applies) refl (first-stops rs ss)
     go : (t : Bool) → r .applies ≡ t → ((firstOf rs ≡ 0 → ⊥) → firstOf (rs ++ ss) ≡ firstOf rs) → pick (r .applies) (r .number) (firstOf (rs ++ ss)) ≡ pick (r .applies) (r .number) (firstOf rs)
     go true a more = rw a
     go false a more = rw a (more (λ e. h (rw a e)))
+
+-- the whole gives 0 exactly where both parts do
+pub first-both : (rs ss : List Row) → numbered rs ≡ true → (firstOf (rs ++ ss) ≡ 0) ↔ ((firstOf rs ≡ 0) × (firstOf ss ≡ 0))
+first-both rs ss n = (λ e. go e (ℕ-discrete (firstOf rs) 0), λ h. first-then rs ss n (h .0) ∙ h .1)
+  where
+    go : firstOf (rs ++ ss) ≡ 0 → Dec (firstOf rs ≡ 0) → (firstOf rs ≡ 0) × (firstOf ss ≡ 0)
+    go e (yes z) = (z, sym (first-then rs ss n z) ∙ e)
+    go e (no h) = absurd (h (sym (first-stops rs ss h) ∙ e))

@@ -2,7 +2,7 @@
 --   guarded-refused, -done    a refused call gives its number, 0 and the same record; another what it does
 --   either-way                what holds of the record itself and of the record after holds of what a call leaves
 --   Answered, guarded-answers a reply that has the number k, and keeps the record where k is a refusal
---   setup-done, -refused      of setup: a fresh unit, or the number and the record of zeros
+--   setup-accepted, -refused      of setup: a fresh unit, or the number and the record of zeros
 -- Assumes nothing.
 use mathlib.Core.Path.{_≡_, refl, sym}
 use Prim.Native.Nat.{ℕ}
@@ -24,16 +24,16 @@ unfolding guarded
 guarded-refused k u r h = pick-false (eqb k 0) r (refused k u) (ne-eqb k 0 h)
 
 -- a call that is not refused gives what it does
-pub guarded-done : (k : ℕ) (u : Mux) (r : Replied) → k ≡ 0 → guarded k u r ≡ r
+pub guarded-accepted : (k : ℕ) (u : Mux) (r : Replied) → k ≡ 0 → guarded k u r ≡ r
 unfolding guarded
-guarded-done k u r e = pick-true (eqb k 0) r (refused k u) (eq-eqb k 0 e)
+guarded-accepted k u r e = pick-true (eqb k 0) r (refused k u) (eq-eqb k 0 e)
 
 -- what holds of the record itself and of the record after a call that is done holds of the record that the call leaves
 pub either-way : (C : Mux → Type 0) (k : ℕ) (u : Mux) (r : Replied) → C u → C (r .mux) → C (guarded k u r .mux)
 either-way C k u r a b = go (ℕ-discrete k 0)
   where
     go : Dec (k ≡ 0) → C (guarded k u r .mux)
-    go (yes e) = rw (guarded-done k u r e) b
+    go (yes e) = rw (guarded-accepted k u r e) b
     go (no h) = rw (guarded-refused k u r h) a
 
 -- a reply that has the number k, and keeps the record u where k is a refusal
@@ -46,13 +46,13 @@ pub guarded-answers : (k : ℕ) (u : Mux) (r : Replied) → r .reply .code ≡ 0
 guarded-answers k u r z = record { number = go (ℕ-discrete k 0); keeps = guarded-refused k u r }
   where
     go : Dec (k ≡ 0) → guarded k u r .reply .code ≡ k
-    go (yes e) = rw (guarded-done k u r e) (rw (z, e))
+    go (yes e) = rw (guarded-accepted k u r e) (rw (z, e))
     go (no h) = rw (guarded-refused k u r h)
 
 -- a setup that is taken makes a fresh unit of that setting
-pub setup-done : (s : Setting) → refusal (ofSetup s) ≡ 0 → setup s ≡ accepted 0 (fresh s)
+pub setup-accepted : (s : Setting) → refusal (ofSetup s) ≡ 0 → setup s ≡ accepted 0 (fresh s)
 unfolding setup
-setup-done s e = guarded-done (refusal (ofSetup s)) noMux (accepted 0 (fresh s)) e
+setup-accepted s e = guarded-accepted (refusal (ofSetup s)) noMux (accepted 0 (fresh s)) e
 
 -- a refused setup gives its number and the record of zeros
 pub setup-refused : (s : Setting) → (refusal (ofSetup s) ≡ 0 → ⊥) → setup s ≡ refused (refusal (ofSetup s)) noMux

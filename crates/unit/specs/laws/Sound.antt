@@ -1,31 +1,32 @@
 -- Refusal 0 is soundness (document 01, the table of refusals).
 --   good-block .. good-end   each row of the setting, read in numbers
---   size-fits, base-fits     what the parts of setup's table let pass
---   fits-iff, sound-iff      refusal 0 is exactly what Fits and Sound say
+--   size-fits .. fits-iff    each part of setup's table gives 0 exactly where its part of Fits holds, and so does the whole
+--   sound-iff                refusal 0 of a record is exactly what Sound says
 --   port-iff .. sweep-iff    refusal 0 of each other kind of call
 --   sound-with               what keeps the setting, with a position below P and a sound interrupt side, keeps soundness: the one law for every change of a record
 --   fresh-sound              what setup makes is sound; the record of zeros is not
+--   sizes                    the sizes that pass, in numbers
 --   block-inside             a port's control block lies in the memory
 -- Assumes nothing.
 use mathlib.Core.Path.{_≡_, refl, ap, _∙_, sym}
 use mathlib.Core.Bool.{true, false, not, _||_}
-use mathlib.Core.List.{List}
+use mathlib.Core.List.{List, _++_}
 use mathlib.Core.Logic.{_↔_, _⊎_, inl, inr}
 use Prim.Native.Nat.{ℕ, _+_, _-_, _*_, _/_, _%_, _<_, _≤_}
-use native.Mathlib.Nat.{mul-le-mul, mul-le-mul-right}
+use native.Mathlib.Nat.{mul-pos, mul-le-mul, mul-le-mul-right}
 use native.Mathlib.Omega.{arith}
 use lib.Dec.{eqb, leb, ltb}
 use lib.ListN.{length}
 use borrow.Author.Tests.{ltb-false, leb-false, eqb-true, eqb-false, not-false, le-ltb, lt-leb, eq-eqb, ne-eqb}
 use Rattle.ground.specs.Choose.{asked, firstOf}
-use Rattle.ground.specs.laws.Rows.{or-false, or-true, both-false, first-zero}
+use Rattle.ground.specs.laws.Rows.{or-false, or-true, both-false, first-zero, first-both}
 use Rattle.interrupt.specs.Interrupt as Interrupt
 use Rattle.interrupt.specs.laws.Interrupt as Irq
 use Rattle.unit.specs.declared.mux.Setting.{Setting}
 use Rattle.unit.specs.declared.mux.Mux.{Mux}
 use Rattle.unit.specs.Record.{fresh, noMux, blockAt}
 use Rattle.unit.specs.Refusals.{WORDS, MOST-PORTS, MOST-INSPECTIONS, badBlock, badPorts, badBase, crosses, overruns, sizeRows, baseRows, areaRows, settingRows, unsound, rowsOf, callRows, tableOf, refusal, ofSetup, ofUnit, ofPort, ofInspection, ofSweep}
-use Rattle.unit.specs.Sound.{IsBlock, eight, sixteen, thirty-two, Fits, Sound}
+use Rattle.unit.specs.Sound.{IsBlock, eight, sixteen, thirty-two, SizeFits, BaseFits, AreaFits, Fits, Sound}
 use Rattle.unit.specs.laws.Refusals.{setup-refusal}
 
 -- ---- the rows, read in numbers
@@ -79,42 +80,49 @@ pub good-end : (b n a : ℕ) → (overruns b n a ≡ false) ↔ (a + n * b ≤ 3
 unfolding overruns
 good-end b n a = (λ e. ltb-false 32768 _ e, λ h. le-ltb 32768 _ h)
 
--- ---- the setting
+-- ---- the setting, by the parts of its table
 
--- rows 1 and 2 passed
-pub size-fits : (s : Setting) → firstOf (sizeRows s) ≡ 0 → IsBlock (s .block) × ((0 < s .ports) × (s .ports ≤ 128))
+pub size-fits : (s : Setting) → (firstOf (sizeRows s) ≡ 0) ↔ SizeFits s
 unfolding sizeRows
-size-fits s e =
-    let p = first-zero (sizeRows s) refl .0 e in
-    (good-block _ .0 (p .0), good-ports _ .0 (p .1 .0))
+size-fits s =
+    let z = first-zero (sizeRows s) refl in
+    (
+      λ e. let p = z .0 e in
+          let n = good-ports _ .0 (p .1 .0) in
+          record { block = good-block _ .0 (p .0); some-port = n .0; few-ports = n .1 },
+      λ h. z .1 (good-block _ .1 (h .block), (good-ports _ .1 (h .some-port, h .few-ports), tt)),
+    )
 
--- row 3 passed
-pub base-fits : (s : Setting) → firstOf (baseRows s) ≡ 0 → (s .base % (8 * s .block) ≡ 0) × (s .base ≤ 32767)
+pub base-fits : (s : Setting) → (firstOf (baseRows s) ≡ 0) ↔ BaseFits s
 unfolding baseRows
-base-fits s e = good-base _ _ .0 (first-zero (baseRows s) refl .0 e .0)
+base-fits s =
+    let z = first-zero (baseRows s) refl in
+    (
+      λ e. let a = good-base _ _ .0 (z .0 e .0) in record { aligned = a .0; low = a .1 },
+      λ h. z .1 (good-base _ _ .1 (h .aligned, h .low), tt),
+    )
+
+pub area-fits : (s : Setting) → (firstOf (areaRows s) ≡ 0) ↔ AreaFits s
+unfolding areaRows
+area-fits s =
+    let z = first-zero (areaRows s) refl in
+    (
+      λ e. let p = z .0 e in record { one = good-area _ _ _ .0 (p .0); inside = good-end _ _ _ .0 (p .1 .0) },
+      λ h. z .1 (good-area _ _ _ .1 (h .one), (good-end _ _ _ .1 (h .inside), tt)),
+    )
 
 -- no row of 1 to 5 applies exactly where the setting fits
 pub fits-iff : (s : Setting) → (firstOf (settingRows s) ≡ 0) ↔ Fits s
-unfolding settingRows sizeRows baseRows areaRows
-fits-iff s = (to, from)
-  where
-    to : firstOf (settingRows s) ≡ 0 → Fits s
-    to e =
-        let p = first-zero (settingRows s) refl .0 e in
-        record {
-          block = good-block _ .0 (p .0);
-          some-port = good-ports _ .0 (p .1 .0) .0;
-          few-ports = good-ports _ .0 (p .1 .0) .1;
-          aligned = good-base _ _ .0 (p .1 .1 .0) .0;
-          low-base = good-base _ _ .0 (p .1 .1 .0) .1;
-          one-area = good-area _ _ _ .0 (p .1 .1 .1 .0);
-          inside = good-end _ _ _ .0 (p .1 .1 .1 .1 .0);
-        }
-
-    from : Fits s → firstOf (settingRows s) ≡ 0
-    from h =
-        first-zero (settingRows s) refl .1
-        (good-block _ .1 (h .block), (good-ports _ .1 (h .some-port, h .few-ports), (good-base _ _ .1 (h .aligned, h .low-base), (good-area _ _ _ .1 (h .one-area), (good-end _ _ _ .1 (h .inside), tt)))))
+unfolding settingRows sizeRows baseRows
+fits-iff s =
+    let z = first-both (sizeRows s) (baseRows s ++ areaRows s) refl in
+    let y = first-both (baseRows s) (areaRows s) refl in
+    (
+      λ e. let p = z .0 e in
+          let q = y .0 (p .1) in
+          record { size = size-fits s .0 (p .0); base = base-fits s .0 (q .0); area = area-fits s .0 (q .1) },
+      λ h. z .1 (size-fits s .1 (h .size), y .1 (base-fits s .1 (h .base), area-fits s .1 (h .area))),
+    )
 
 -- a setup that is not refused
 pub setup-iff : (s : Setting) → (refusal (ofSetup s) ≡ 0) ↔ Fits s
@@ -188,7 +196,7 @@ sound-with u v e h i s = record { setting = rw e (s .setting); position = h; irq
 
 -- a fresh unit is sound
 pub fresh-sound : (s : Setting) → refusal (ofSetup s) ≡ 0 → Sound (fresh s)
-fresh-sound s e = let f = setup-iff s .0 e in record { setting = f; position = f .some-port; irq = Irq.fresh-sound }
+fresh-sound s e = let f = setup-iff s .0 e in record { setting = f; position = f .size .some-port; irq = Irq.fresh-sound }
 
 -- the record of zeros is unsound
 pub zeros-unsound : Sound noMux → ⊥
@@ -202,18 +210,26 @@ block-bounds b (eight e) = omega arith
 block-bounds b (sixteen e) = omega arith
 block-bounds b (thirty-two e) = omega arith
 
--- an area of at most 128 blocks of at most 32 words has at most 4,096 words
-pub area-most : (b n : ℕ) → b ≤ 32 → n ≤ 128 → n * b ≤ 4096
-area-most b n p q = mul-le-mul q p
+-- the sizes in numbers: at most 128 blocks of at most 32 words have at most 4,096 words, and at least one
+pub record Sizes (s : Setting) : Type 0 where
+  pub least : 8 ≤ s .block
+  pub most : s .block ≤ 32
+  pub some : 0 < s .ports * s .block
+  pub area : s .ports * s .block ≤ 4096
+
+pub sizes : (s : Setting) → SizeFits s → Sizes s
+sizes s f =
+    let b = block-bounds (s .block) (f .block) in
+    record { least = b .0; most = b .1; some = mul-pos (f .some-port) (omega arith); area = mul-le-mul (f .few-ports) (b .1) }
 
 -- every port of a setting that fits has eight words of control block in the memory
 pub block-inside : (s : Setting) (p : ℕ) → Fits s → p < s .ports → blockAt s p + 8 ≤ 32768
 unfolding blockAt
 block-inside s p f h =
-    omega (arith, mul-le-mul-right (s .block) h, f .inside, block-bounds (s .block) (f .block))
+    omega (arith, mul-le-mul-right (s .block) h, f .area .inside, block-bounds (s .block) (f .size .block))
 
 -- a port number that is not refused is a place of the record's array
 pub port-below : (u : Mux) (p : ℕ) → refusal (ofPort u p) ≡ 0 → p < 128
 port-below u p e =
     let h = port-iff u p .0 e in
-    omega (arith, h .0 .setting .few-ports, h .1)
+    omega (arith, h .0 .setting .size .few-ports, h .1)

@@ -10,10 +10,10 @@ use Rattle.unit.specs.laws.Sound.{block-bounds}
 use Rattle.unit.proofs.mux.address_at.Tie as tie
 
 div-result : tie.Need-div-result
-div-result c = omega (arith, block-bounds (c .before .args .s .block) (c .before .pre .0 .block))
+div-result c = omega (arith, block-bounds (c .before .args .s .block) (c .before .pre .0 .size .block))
 
 add-result : tie.Need-add-result
-add-result c = omega (arith, div-le-self (c .before .args .s .base) (c .before .args .s .block), c .before .pre .0 .low-base, c .before .pre .0 .few-ports)
+add-result c = omega (arith, div-le-self (c .before .args .s .base) (c .before .args .s .block), c .before .pre .0 .base .low, c .before .pre .0 .size .few-ports)
 
 returns : tie.Need-returns
 unfolding addressAt

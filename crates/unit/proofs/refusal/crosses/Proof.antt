@@ -1,21 +1,28 @@
 -- `unit::refusal::crosses` meets its contract: the area has at most 4,096 words, and at least one.
 use mathlib.Core.Path.{refl}
-use native.Mathlib.Nat.{mul-pos}
 use native.Mathlib.Omega.{arith}
-use borrow.Author.Needs.{needs}
 use Rattle.unit.proofs.refusal.crosses.Statement.{statement}
 use Rattle.unit.specs.Refusals.{crosses}
-use Rattle.unit.specs.laws.Sound.{area-most}
+use Rattle.unit.specs.laws.Sound.{sizes}
 use Rattle.unit.proofs.refusal.crosses.Tie as tie
 
-mul-result-2 : tie.Need-mul-result-2
-mul-result-2 c = omega (arith, area-most (c .args .b) (c .args .n) (search needs) (search needs))
+mul-span : tie.Need-mul-span
+mul-span c = let z = sizes (c .before .args .s) (c .before .pre .0) in omega (arith, c .before .pre .1 .low)
+
+div-result : tie.Need-div-result
+div-result c = let z = sizes (c .before .before .args .s) (c .before .before .pre .0) in omega (arith, c .before .before .pre .1 .low)
+
+mul-result : tie.Need-mul-result
+mul-result c = let z = sizes (c .before .before .before .args .s) (c .before .before .before .pre .0) in omega (arith, c .before .before .before .pre .1 .low)
 
 add-result : tie.Need-add-result
-add-result c = omega (arith, area-most (c .args .b) (c .args .n) (search needs) (search needs))
+add-result c = let z = sizes (c .before .before .before .before .args .s) (c .before .before .before .before .pre .0) in omega (arith, c .before .before .before .before .pre .1 .low)
 
 sub-result : tie.Need-sub-result
-sub-result c = omega (arith, mul-pos (c .pre .1 .0 .0) (c .pre .0 .0))
+sub-result c = let z = sizes (c .before .before .before .before .args .s) (c .before .before .before .before .pre .0) in omega (arith, c .before .before .before .before .pre .1 .low)
+
+div-result-2 : tie.Need-div-result-2
+div-result-2 c = let z = sizes (c .before .before .before .before .args .s) (c .before .before .before .before .pre .0) in omega (arith, c .before .before .before .before .pre .1 .low)
 
 returns : tie.Need-returns
 unfolding crosses
@@ -23,7 +30,4 @@ returns c = refl
 
 pub crosses-spec : {M : Type 1} → statement M
 crosses-spec =
-    tie.close
-    (tie.spec
-    (λ c. search needs) (λ c. search needs) mul-result-2 add-result sub-result (λ c. search needs) (λ c. search needs)
-    returns)
+    tie.close (tie.spec mul-span div-result mul-result add-result sub-result div-result-2 returns)

@@ -1,17 +1,16 @@
 -- `unit::refusal::overruns` meets its contract: the area has at most 4,096 words.
 use mathlib.Core.Path.{refl}
 use native.Mathlib.Omega.{arith}
-use borrow.Author.Needs.{needs}
 use Rattle.unit.proofs.refusal.overruns.Statement.{statement}
 use Rattle.unit.specs.Refusals.{overruns}
-use Rattle.unit.specs.laws.Sound.{area-most}
+use Rattle.unit.specs.laws.Sound.{sizes}
 use Rattle.unit.proofs.refusal.overruns.Tie as tie
 
 mul-result : tie.Need-mul-result
-mul-result c = omega (arith, area-most (c .args .b) (c .args .n) (search needs) (search needs))
+mul-result c = let z = sizes (c .before .args .s) (c .before .pre .0) in omega (arith, c .before .pre .1 .low)
 
 add-result : tie.Need-add-result
-add-result c = omega (arith, area-most (c .args .b) (c .args .n) (search needs) (search needs))
+add-result c = let z = sizes (c .before .before .args .s) (c .before .before .pre .0) in omega (arith, c .before .before .pre .1 .low)
 
 returns : tie.Need-returns
 unfolding overruns
