@@ -1,7 +1,7 @@
 -- Everything that document 01 lets an emulator ask of the unit, and one step of the record, the memory and the list.
 -- Each step is the definition that the call's own contract cites.
 --   setUp          a setup beside a record that stands
---   done           one thing asked of the unit that stands
+--   performed      one thing asked of the unit that stands
 --   stepOf, step   one call
 --   given          what a call is given, for the table of refusals
 --   asking, settingUp   a call that is no setup, and one that is
@@ -33,10 +33,10 @@ unfoldable pub setUp : Mux → Replied → Replied
 setUp u r = record { reply = r .reply; mux = pick (eqb (r .reply .code) 0) (r .mux) u }
 
 -- one thing asked of the unit that stands; what the lines and the processor do leaves the memory as it was
-unfoldable pub done : World → Act → Looked
-done w (Line p e) = looked (line (w .mux) p e) (w .memory)
-done w (Processor o) = looked (order (w .mux) o) (w .memory)
-done w Inspect = inspection (w .mux) (w .memory)
+unfoldable pub performed : World → Act → Looked
+performed w (Line p e) = looked (line (w .mux) p e) (w .memory)
+performed w (Processor o) = looked (order (w .mux) o) (w .memory)
+performed w Inspect = inspection (w .mux) (w .memory)
 
 -- a call that leaves the list as it was
 abbrev pub listed : Looked → List ℕ → Outcome
@@ -45,7 +45,7 @@ listed l xs = record { reply = l .reply; world = l .world; list = xs }
 -- one call, by what is asked
 unfoldable pub stepOf : World → List ℕ → Setting → What → Outcome
 stepOf w xs s Setup = listed (looked (setUp (w .mux) (setup s)) (w .memory)) xs
-stepOf w xs s (Do a) = listed (done w a) xs
+stepOf w xs s (Do a) = listed (performed w a) xs
 stepOf w xs s (Sweep n) = sweep (w .mux) (w .memory) n xs
 
 -- one call

@@ -1,6 +1,6 @@
 -- Lists of calls and host writes (document 01, what a proof here has to nail: "any list of calls and host writes").
 --   Event, happens, run    a call with the list that it is lent, or a host write; the world after one, and after a list
---   Single, act, after     a single thing: a call that is no sweep, or a host write; what it answers and leaves
+--   Single, result, after  a single thing: a call that is no sweep, or a host write; what it answers and leaves
 --   runSingles             the world after a list of single things
 --   singlesOf, singles     the single things that an event comes to where it happens, a sweep being the inspections that it makes
 --   counted .. echoAt      tests of a single thing by what it answers
@@ -28,7 +28,7 @@ use Rattle.calls.specs.declared.call.Act.the-variants.{Line, Processor, 
 use Rattle.calls.specs.declared.call.What.{What}
 use Rattle.calls.specs.declared.call.What.the-variants.{Setup, Do, Sweep}
 use Rattle.calls.specs.declared.call.Call.{Call}
-use Rattle.calls.specs.Calls.{setUp, done, step}
+use Rattle.calls.specs.Calls.{setUp, performed, step}
 
 -- ---- events
 
@@ -54,14 +54,14 @@ pub data Single : Type 0 where
   writes : (m : List ℕ) → Single
 
 -- what a single thing answers and leaves; a host write answers nothing
-unfoldable pub act : World → Single → Looked
-act w (setsUp s) = looked (setUp (w .mux) (setup s)) (w .memory)
-act w (does a) = done w a
-act w (writes m) = looked (refused 0 (w .mux)) m
+unfoldable pub result : World → Single → Looked
+result w (setsUp s) = looked (setUp (w .mux) (setup s)) (w .memory)
+result w (does a) = performed w a
+result w (writes m) = looked (refused 0 (w .mux)) m
 
 -- the world after one single thing, and after a list of them
 abbrev pub after : World → Single → World
-after w a = act w a .world
+after w a = result w a .world
 
 abbrev pub runSingles : World → List Single → World
 runSingles w xs = Machine.run after w xs
@@ -85,15 +85,15 @@ singles w (e ∷ es) = singlesOf w e ++ singles (happens w e) es
 
 -- an inspection that counts: neither refused nor of a stopped unit
 unfoldable pub counted : World → Single → Bool
-counted w a = counts (act w a .reply .answer .turn)
+counted w a = counts (result w a .reply .answer .turn)
 
 -- port p's turn
 unfoldable pub turnAt : ℕ → World → Single → Bool
-turnAt p w a = counted w a && eqb (act w a .reply .answer .port) p
+turnAt p w a = counted w a && eqb (result w a .reply .answer .port) p
 
 -- port p's turn that goes to a service
 unfoldable pub serviceAt : Service → ℕ → World → Single → Bool
-serviceAt k p w a = eqb (turnNumber (act w a .reply .answer .turn)) (turnNumber (Served k)) && eqb (act w a .reply .answer .port) p
+serviceAt k p w a = eqb (turnNumber (result w a .reply .answer .turn)) (turnNumber (Served k)) && eqb (result w a .reply .answer .port) p
 
 -- port p's turn that goes to input, and one that goes to output
 abbrev pub inputAt : ℕ → World → Single → Bool
@@ -104,11 +104,11 @@ outputAt p w a = serviceAt Output p w a
 
 -- port p's turn that goes to input, with an echo that fills the transmitter
 unfoldable pub echoAt : ℕ → World → Single → Bool
-echoAt p w a = inputAt p w a && act w a .reply .answer .sent
+echoAt p w a = inputAt p w a && result w a .reply .answer .sent
 
 -- a call that is not refused
 unfoldable pub taken : World → Single → Bool
-taken w a = eqb (act w a .reply .code) 0
+taken w a = eqb (result w a .reply .code) 0
 
 -- an arrival, of the signals
 unfoldable pub isArrival : Signal → Bool

@@ -23,7 +23,7 @@ use Rattle.unit.specs.Setup.{setup}
 use Rattle.lines.specs.declared.signal.Signal.the-variants.{Arrival, DeviceStatus}
 use Rattle.processor.specs.declared.orders.Order.the-variants.{Iopls, Doc, Dia, Tick}
 use Rattle.calls.specs.declared.call.Act.the-variants.{Line, Processor, Inspect}
-use Rattle.calls.specs.Events.{Single, setsUp, does, act, after, runSingles}
+use Rattle.calls.specs.Events.{Single, setsUp, does, result, after, runSingles}
 
 -- 32,768 words of 0
 abbrev pub clear : List ℕ
@@ -45,7 +45,7 @@ typed p c = does (Line p (Arrival c false false))
 -- what was served by each of a list of inspections
 unfoldable pub turnsOf : World → List Single → List Turn
 turnsOf w [] = []
-turnsOf w (x ∷ xs) = act w x .reply .answer .turn ∷ turnsOf (after w x) xs
+turnsOf w (x ∷ xs) = result w x .reply .answer .turn ∷ turnsOf (after w x) xs
 
 -- the number that setup gives
 abbrev pub codeOf : ℕ → ℕ → ℕ → ℕ
@@ -99,7 +99,7 @@ pub record Starred : Type 0 where
   pub status-in : runSingles both (look ∷ []) .mux .irq .status ≡ 11264
   pub status-out : runSingles both (look ∷ look ∷ []) .mux .irq .status ≡ 31776
   -- a tick alone gives 32768
-  pub status-tick : act (unitAfter 32 2 15360 clear (does (Processor Iopls) ∷ does (Processor Tick) ∷ [])) (does (Processor Dia)) .reply .value ≡ 32768
+  pub status-tick : result (unitAfter 32 2 15360 clear (does (Processor Iopls) ∷ does (Processor Tick) ∷ [])) (does (Processor Dia)) .reply .value ≡ 32768
   -- P 4, position 1, a character at port 0: served by the fourth inspection; position 0: by the first
   pub fourth : turnsOf waiting (look ∷ look ∷ look ∷ look ∷ []) ≡ Served Output ∷ Served Output ∷ Served Output ∷ Served Input ∷ []
   pub first : turnsOf (unitAfter 8 4 64 clear (typed 0 7 ∷ [])) (look ∷ []) ≡ Served Input ∷ []

@@ -14,7 +14,7 @@ use unit::setup::setup;
 ghost use mathlib.Core.Path.{_≡_};
 ghost use Rattle.unit.specs.Reply.{world, looked, outcome};
 ghost use Rattle.unit.specs.Setup.{setup};
-ghost use Rattle.calls.specs.Calls.{setUp, done, step};
+ghost use Rattle.calls.specs.Calls.{setUp, performed, step};
 
 // Setup makes a new record and touches no old one: a refused one leaves the record that stands.
 fn set_up(u: Mux, s: Setting) -> Replied
@@ -31,7 +31,7 @@ fn set_up(u: Mux, s: Setting) -> Replied
 
 // One thing asked of the unit that stands.
 fn apply(u: Mux, mem: &mut [u16], a: Act) -> Replied
-    ensures { λ r. ⌜ looked r (now (mem .exit)) ≡ done (world u (now (mem .entry))) a ⌝ }
+    ensures { λ r. ⌜ looked r (now (mem .exit)) ≡ performed (world u (now (mem .entry))) a ⌝ }
 {
     match a {
         Act::Line { port, signal } => line(u, port, signal),

@@ -17,7 +17,7 @@ use Rattle.interrupt.specs.Interrupt as Interrupt
 use Rattle.unit.specs.declared.mux.Port.{Port}
 use Rattle.unit.specs.declared.mux.Mux.{Mux}
 use Rattle.unit.specs.declared.reply.Replied.{Replied}
-use Rattle.unit.specs.Record.{noCharacter}
+use Rattle.unit.specs.Record.{noCharacter, remade}
 use Rattle.unit.specs.Reply.{accepted, guarded}
 use Rattle.unit.specs.Refusals.{refusal, ofUnit}
 use Rattle.processor.specs.declared.orders.Order.{Order}
@@ -37,20 +37,11 @@ resetPort q =
 
 -- unit and clock off, flag and status 0, position 0, every port reset
 abbrev pub resetUnit : Mux → Mux
-resetUnit u =
-    record {
-      setting = u .setting;
-      pos = 0;
-      runs = false;
-      clock = false;
-      irq = Interrupt.cleared (u .irq);
-      port = map resetPort (u .port);
-    }
+resetUnit u = remade u 0 false false (Interrupt.cleared (u .irq)) (map resetPort (u .port))
 
 -- the record with other switches and another interrupt side: position and held characters kept
 abbrev pub switched : Mux → Bool → Bool → Irq → Mux
-switched u runs clock irq =
-    record { setting = u .setting; pos = u .pos; runs = runs; clock = clock; irq = irq; port = u .port }
+switched u runs clock irq = remade u (u .pos) runs clock irq (u .port)
 
 -- the further result: DIA returns the status word; DIAS returns it, as it was before its START
 abbrev pub valueOf : Order → Irq → ℕ

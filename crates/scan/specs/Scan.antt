@@ -12,7 +12,7 @@ use lib.ListN.{set}
 use Rattle.ground.specs.Choose.{pick}
 use Rattle.interrupt.specs.declared.Service.{Service}
 use Rattle.unit.specs.declared.mux.Mux.{Mux}
-use Rattle.unit.specs.Record.{portAt}
+use Rattle.unit.specs.Record.{portAt, remade}
 use Rattle.unit.specs.Reply.{nothing, refused, answered, Looked, looked}
 use Rattle.unit.specs.Refusals.{refusal, ofInspection}
 use Rattle.scan.specs.declared.turn.Turned.{Turned}
@@ -24,15 +24,7 @@ nextPos u = (u .pos + 1) % u .setting .ports
 
 -- the record after a turn: the port at the position and the interrupt side as the turn left them, the position one on
 abbrev pub moved : Mux → Turned → Mux
-moved u t =
-    record {
-      setting = u .setting;
-      pos = nextPos u;
-      runs = u .runs;
-      clock = u .clock;
-      irq = t .irq;
-      port = set (u .port) (u .pos) (t .port);
-    }
+moved u t = remade u (nextPos u) (u .runs) (u .clock) (t .irq) (set (u .port) (u .pos) (t .port))
 
 -- what an inspection leaves that made a turn
 abbrev pub lookedAt : Mux → Turning → Looked

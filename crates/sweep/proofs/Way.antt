@@ -21,7 +21,7 @@ use Rattle.unit.specs.Sound.{Sound}
 use Rattle.scan.specs.declared.turn.Turned.{Turned}
 use Rattle.scan.specs.Turn.{Turning, turning, turn}
 use Rattle.scan.specs.Scan.{moved, lookedAt, scanned}
-use Rattle.scan.specs.laws.Scan.{sound-counted, turn-does, Moves, scan-moves, moves-sound}
+use Rattle.scan.specs.laws.Scan.{sound-scans, turn-does, Moves, scan-moves, moves-sound}
 use Rattle.sweep.specs.Sweep.{Going, entered, going, sweepFrom, setOut}
 use Rattle.sweep.specs.laws.Sweep.{look, one-more, runs-on, one-listed, sweep-end, sweep-stopped, sweep-raised, sweep-more}
 
@@ -60,12 +60,12 @@ set-on u m n xs s w h k = go (u .runs) refl
 pub turns : {n left : ℕ} {s₀ s : Going} → On n s₀ left s → 0 < left → Moves (s .mux) (s .memory) (look s)
 turns {s = s} o h =
     subst (λ (l : Looked). Moves (s .mux) (s .memory) l)
-    (sym (sound-counted (s .mux) (s .memory) (o .sound) (o .runs h) (o .words)))
+    (sym (sound-scans (s .mux) (s .memory) (o .sound) (o .runs h) (o .words)))
     (scan-moves (s .mux) (s .memory))
 
 -- its port is one of 128
 pub pos-small : {n left : ℕ} {s₀ s : Going} → On n s₀ left s → s .mux .pos < 128
-pos-small o = omega (arith, o .sound .position, o .sound .setting .few-ports)
+pos-small o = omega (arith, o .sound .position, o .sound .setting .size .few-ports)
 
 -- and what the turn answers names it
 pub port-small : {n left : ℕ} {s₀ s : Going} {t : Turned} {mem′ : List ℕ} → On n s₀ left s → turning t mem′ ≡ turn (s .mux .setting) (s .mux .pos) (portAt (s .mux) (s .mux .pos)) (s .mux .irq) (s .memory) → t .answer .port < 128
@@ -113,7 +113,7 @@ pub again : {n left left′ made used used′ : ℕ} {s₀ : Going} {v : Mux} {m
 unfolding going scanned
 again {n} {left} {left′} {made} {used} {used′} {s₀} {v} {mem} {mem′} {list} {list′} {t} o h e u l k =
     let s : Going = record { made = made; used = used; mux = v; memory = mem; list = list } in
-    let g : look s ≡ lookedAt v (turning t mem′) = sound-counted v mem (o .sound) (o .runs h) (o .words) ∙ ap (lookedAt v) (sym e) in
+    let g : look s ≡ lookedAt v (turning t mem′) = sound-scans v mem (o .sound) (o .runs h) (o .words) ∙ ap (lookedAt v) (sym e) in
     let p = subst (λ (x : Looked). On n s₀ (pick (x .reply .answer .raised) 0 (left - 1)) (going s x)) g (one-on o h) in
     rw (u, l, k) p
 

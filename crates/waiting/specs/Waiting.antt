@@ -32,7 +32,7 @@ use Rattle.scan.specs.Scan.{serviceTurn}
 use Rattle.sweep.specs.Sweep.{sweep}
 use Rattle.calls.specs.declared.call.Act.the-variants.{Line, Inspect}
 use Rattle.calls.specs.declared.call.What.the-variants.{Sweep}
-use Rattle.calls.specs.Events.{Event, run, Single, does, act, after, runSingles, singlesIn, singles, counted, turnAt, inputAt, echoAt, arrivesAt, breaks}
+use Rattle.calls.specs.Events.{Event, run, Single, does, result, after, runSingles, singlesIn, singles, counted, turnAt, inputAt, echoAt, arrivesAt, breaks}
 
 -- ---- the words of the demand
 
@@ -95,7 +95,7 @@ pub record Served (p : ℕ) (c : Character) (w : World) (xs : List Single) : Typ
   pub soon : Soon w (wait .before)
   pub look : wait .here ≡ does Inspect
   pub turn : met wait .mux .pos ≡ p
-  pub rules : act (met wait) (wait .here) ≡ serviceTurn Input (met wait .mux) (met wait .memory)
+  pub rules : result (met wait) (wait .here) ≡ serviceTurn Input (met wait .mux) (met wait .memory)
   pub once : NotAgain p (next wait)
 
 -- it was replaced: held untouched until a later character of its own line, after fewer than P counted inspections, took its place;
@@ -128,7 +128,7 @@ pub record Handed (p : ℕ) (w : World) (xs : List Single) : Type 0 where
   pub soon : SoonFor p w (wait .before)
   pub look : wait .here ≡ does Inspect
   pub turn : met wait .mux .pos ≡ p
-  pub rules : act (met wait) (wait .here) ≡ serviceTurn Output (met wait .mux) (met wait .memory)
+  pub rules : result (met wait) (wait .here) ≡ serviceTurn Output (met wait .mux) (met wait .memory)
 
 -- an echo of the port's own filled the transmitter
 pub record Echoed (p : ℕ) (w : World) (xs : List Single) : Type 0 where

@@ -1,6 +1,6 @@
 -- Every call answers by the table's number, and a refusal changes nothing (document 01, the table of refusals).
 --   Refuses            an outcome that has the number k, and where k is a refusal is the world and the list as they were
---   done-refuses       of one thing asked of the unit that stands
+--   performed-refuses  of one thing asked of the unit that stands
 --   step-refuses       of every call: a refused setup too keeps the record that stands
 -- Assumes nothing.
 use mathlib.Core.Path.{_≡_, refl, sym, _∙_, ap}
@@ -23,13 +23,13 @@ use Rattle.processor.specs.Processor.{order}
 use Rattle.scan.specs.Scan.{inspection}
 use Rattle.scan.specs.laws.Scan.{Kind, takes-turn, stands-still, kind, scan-moves}
 use Rattle.sweep.specs.Sweep.{sweep}
-use Rattle.sweep.specs.laws.Sweep.{sweep-refused, sweep-done}
+use Rattle.sweep.specs.laws.Sweep.{sweep-refused, sweep-accepted}
 use Rattle.calls.specs.declared.call.Act.{Act}
 use Rattle.calls.specs.declared.call.Act.the-variants.{Line, Processor, Inspect}
 use Rattle.calls.specs.declared.call.What.{What}
 use Rattle.calls.specs.declared.call.What.the-variants.{Setup, Do, Sweep}
 use Rattle.calls.specs.declared.call.Call.{Call}
-use Rattle.calls.specs.Calls.{setUp, done, listed, stepOf, step, givenTo, givenOf}
+use Rattle.calls.specs.Calls.{setUp, performed, listed, stepOf, step, givenTo, givenOf}
 
 -- the number k, and where it is a refusal the record, the memory and the list as they were, with no further result
 pub record Refuses (k : ℕ) (u : Mux) (m xs : List ℕ) (o : Outcome) : Type 0 where
@@ -68,20 +68,20 @@ sweeps : (u : Mux) (m : List ℕ) (n : ℕ) (xs : List ℕ) → Refuses (refusal
 sweeps u m n xs = record { number = go (ℕ-discrete (refusal (ofSweep u m n xs)) 0); keeps = sweep-refused u m n xs }
   where
     go : Dec (refusal (ofSweep u m n xs) ≡ 0) → sweep u m n xs .reply .code ≡ refusal (ofSweep u m n xs)
-    go (yes e) = rw (sweep-done u m n xs e) (sym e)
+    go (yes e) = rw (sweep-accepted u m n xs e) (sym e)
     go (no h) = rw (sweep-refused u m n xs h)
 
 -- one thing asked of the unit that stands
-pub done-refuses : (w : World) (xs : List ℕ) (a : Act) → Refuses (refusal (givenTo w a)) (w .mux) (w .memory) xs (listed (done w a) xs)
-unfolding done givenTo line order
-done-refuses w xs (Line p e) = on-record _ (w .mux) (w .memory) xs _ (guarded-answers _ (w .mux) _ refl)
-done-refuses w xs (Processor o) = on-record _ (w .mux) (w .memory) xs _ (guarded-answers _ (w .mux) _ refl)
-done-refuses w xs Inspect = looks (w .mux) (w .memory) xs
+pub performed-refuses : (w : World) (xs : List ℕ) (a : Act) → Refuses (refusal (givenTo w a)) (w .mux) (w .memory) xs (listed (performed w a) xs)
+unfolding performed givenTo line order
+performed-refuses w xs (Line p e) = on-record _ (w .mux) (w .memory) xs _ (guarded-answers _ (w .mux) _ refl)
+performed-refuses w xs (Processor o) = on-record _ (w .mux) (w .memory) xs _ (guarded-answers _ (w .mux) _ refl)
+performed-refuses w xs Inspect = looks (w .mux) (w .memory) xs
 
 by-what : (w : World) (xs : List ℕ) (s : Setting) (a : What) → Refuses (refusal (givenOf w xs s a)) (w .mux) (w .memory) xs (stepOf w xs s a)
 unfolding stepOf givenOf
 by-what w xs s Setup = on-record _ (w .mux) (w .memory) xs _ (set-up (w .mux) s)
-by-what w xs s (Do a) = done-refuses w xs a
+by-what w xs s (Do a) = performed-refuses w xs a
 by-what w xs s (Sweep n) = sweeps (w .mux) (w .memory) n xs
 
 -- every call

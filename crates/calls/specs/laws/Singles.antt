@@ -20,14 +20,14 @@ use Rattle.unit.specs.Refusals.{WORDS, refusal, ofSweep}
 use Rattle.unit.specs.Sound.{Sound}
 use Rattle.unit.specs.laws.Sound.{sweep-iff}
 use Rattle.scan.specs.Scan.{scanned}
-use Rattle.scan.specs.laws.Scan.{sound-counted, scan-moves, moves-sound}
+use Rattle.scan.specs.laws.Scan.{sound-scans, scan-moves, moves-sound}
 use Rattle.sweep.specs.Sweep.{Going, going, setOut, sweep}
-use Rattle.sweep.specs.laws.Sweep.{look, Looks, none, last, more, sweeps, sweep-refused, sweep-done}
+use Rattle.sweep.specs.laws.Sweep.{look, Looks, none, last, more, sweeps, sweep-refused, sweep-accepted}
 use Rattle.calls.specs.declared.call.Act.the-variants.{Inspect}
 use Rattle.calls.specs.declared.call.What.{What}
 use Rattle.calls.specs.declared.call.What.the-variants.{Setup, Do, Sweep}
-use Rattle.calls.specs.Calls.{done, stepOf}
-use Rattle.calls.specs.Events.{Event, calls, hostWrites, happens, run, Single, does, act, after, runSingles, singlesIn, singlesOf, singles, counted}
+use Rattle.calls.specs.Calls.{performed, stepOf}
+use Rattle.calls.specs.Events.{Event, calls, hostWrites, happens, run, Single, does, result, after, runSingles, singlesIn, singlesOf, singles, counted}
 
 -- ---- a sweep
 
@@ -37,7 +37,7 @@ at s = world (s .mux) (s .memory)
 
 -- an inspection of a sweep on its way
 inspect-at : (s : Going) → after (at s) (does Inspect) ≡ at (going s (look s))
-unfolding act done going
+unfolding result performed going
 inspect-at s = refl
 
 -- inspections one after the other
@@ -54,14 +54,14 @@ record Ready (s : Going) : Type 0 where
 
 -- its next inspection counts
 look-counts : (s : Going) → Ready s → s .mux .runs ≡ true → counted (at s) (does Inspect) ≡ true
-unfolding counted act done
-look-counts s h r = rw (sound-counted (s .mux) (s .memory) (h .sound) r (h .words)) (scan-moves (s .mux) (s .memory) .counted)
+unfolding counted result performed
+look-counts s h r = rw (sound-scans (s .mux) (s .memory) (h .sound) r (h .words)) (scan-moves (s .mux) (s .memory) .is-turn)
 
 -- and it may go on after that
 look-ready : (s : Going) → Ready s → s .mux .runs ≡ true → Ready (going s (look s))
 unfolding going
 look-ready s h r =
-    let e = sound-counted (s .mux) (s .memory) (h .sound) r (h .words) in
+    let e = sound-scans (s .mux) (s .memory) (h .sound) r (h .words) in
     let t = scan-moves (s .mux) (s .memory) in
     record {
       sound = rw e (moves-sound (s .mux) (s .memory) (scanned (s .mux) (s .memory)) t (h .sound));
@@ -84,7 +84,7 @@ module _ (w : World) (n : ℕ) (list : List ℕ) where
   says-made : refusal (ofSweep (w .mux) (w .memory) n list) ≡ 0 → sweep (w .mux) (w .memory) n list .reply .made ≡ sweeps n (setOut (w .mux) (w .memory) list) .number
   says-made e =
       let t = sweeps n (setOut (w .mux) (w .memory) list) in
-      ap (λ g. g .reply .made) (sweep-done (w .mux) (w .memory) n list e) ∙ t .counted ∙ zero-add (t .number)
+      ap (λ g. g .reply .made) (sweep-accepted (w .mux) (w .memory) n list e) ∙ t .count ∙ zero-add (t .number)
 
   -- a sweep comes to the inspections that it makes
   sweep-singles : runSingles w (replicate (sweep (w .mux) (w .memory) n list .reply .made) (does Inspect)) ≡ sweep (w .mux) (w .memory) n list .world
@@ -95,7 +95,7 @@ module _ (w : World) (n : ℕ) (list : List ℕ) where
       go (yes e) =
           ap (λ k. runSingles w (replicate k (does Inspect))) (says-made e)
           ∙ looks-run (sweeps n (setOut (w .mux) (w .memory) list) .looks)
-          ∙ ap (λ g. g .world) (sym (sweep-done (w .mux) (w .memory) n list e))
+          ∙ ap (λ g. g .world) (sym (sweep-accepted (w .mux) (w .memory) n list e))
       go (no h) = rw (sweep-refused (w .mux) (w .memory) n list h)
 
   -- a sweep that is not refused makes exactly as many counted turns as it says
@@ -108,14 +108,14 @@ module _ (w : World) (n : ℕ) (list : List ℕ) where
 
 -- a call comes to its single things
 call-singles : (w : World) (list : List ℕ) (s : Setting) (a : What) → runSingles w (singlesIn w list s a) ≡ stepOf w list s a .world
-unfolding singlesIn stepOf act Machine.run
+unfolding singlesIn stepOf result Machine.run
 call-singles w list s Setup = refl
 call-singles w list s (Do a) = refl
 call-singles w list s (Sweep n) = sweep-singles w n list
 
 -- an event comes to its single things
 event-singles : (w : World) (e : Event) → runSingles w (singlesOf w e) ≡ happens w e
-unfolding singlesOf happens act Machine.run
+unfolding singlesOf happens result Machine.run
 event-singles w (calls c list) = call-singles w list (c .setting) (c .what)
 event-singles w (hostWrites m) = refl
 

@@ -1,5 +1,5 @@
 -- Laws of what the lines do (document 01, of that name): what each signal keeps, and the mark on a replacement.
---   line-refused, line-done      a call that is refused, and one that is not
+--   line-refused, line-accepted      a call that is refused, and one that is not
 --   line-either                  what holds of the record itself and of the record with its port written holds after the call
 --   line-keeps, line-sound       every other port and the rest of the record are as they were; a sound record stays sound
 --   line-ports                   the record keeps its 128 ports
@@ -22,7 +22,7 @@ use Rattle.unit.specs.Reply.{refused, accepted}
 use Rattle.unit.specs.Refusals.{refusal, ofPort}
 use Rattle.unit.specs.Sound.{Sound, AllPorts}
 use Rattle.unit.specs.laws.Sound.{sound-with}
-use Rattle.unit.specs.laws.Replies.{guarded-refused, guarded-done, either-way}
+use Rattle.unit.specs.laws.Replies.{guarded-refused, guarded-accepted, either-way}
 use Rattle.unit.specs.laws.Ports.{OnlyPort, only-port, held-inside, port-same, port-written}
 use Rattle.lines.specs.declared.signal.Signal.{Signal}
 use Rattle.lines.specs.declared.signal.Signal.the-variants.{Arrival, TransmitterEmpty, DeviceStatus}
@@ -36,9 +36,9 @@ unfolding line
 line-refused u p e h = guarded-refused _ u _ h
 
 -- a call that is not refused writes its port
-pub line-done : (u : Mux) (p : ℕ) (e : Signal) → refusal (ofPort u p) ≡ 0 → line u p e ≡ accepted 0 (withPort u p (signalled (portAt u p) e))
+pub line-accepted : (u : Mux) (p : ℕ) (e : Signal) → refusal (ofPort u p) ≡ 0 → line u p e ≡ accepted 0 (withPort u p (signalled (portAt u p) e))
 unfolding line
-line-done u p e z = guarded-done _ u _ z
+line-accepted u p e z = guarded-accepted _ u _ z
 
 -- what holds of the record itself and of the record with the port written holds after the call
 pub line-either : (C : Mux → Type 0) (u : Mux) (p : ℕ) (e : Signal) → C u → C (withPort u p (signalled (portAt u p) e)) → C (line u p e .mux)
@@ -62,7 +62,7 @@ line-ports u p e h = line-either AllPorts u p e h (length-set (u .port) p _ ∙ 
 
 -- the port p after a signal that is not refused
 pub line-port : (u : Mux) (p : ℕ) (e : Signal) → refusal (ofPort u p) ≡ 0 → p < length (u .port) → portAt (line u p e .mux) p ≡ signalled (portAt u p) e
-line-port u p e z h = rw (line-done u p e z) (port-same u _ p _ refl h)
+line-port u p e z h = rw (line-accepted u p e z) (port-same u _ p _ refl h)
 
 -- the port p after a signal: what the signal makes of it, or as it was
 pub line-written : (u : Mux) (p : ℕ) (e : Signal) → (portAt (line u p e .mux) p ≡ signalled (portAt u p) e) ⊎ (portAt (line u p e .mux) p ≡ portAt u p)

@@ -1,5 +1,5 @@
 -- Laws of what the processor does (document 01, of that name), each said once over the order where it can be.
---   order-refused, order-done     an order that is refused, and one that is not; of a sound record none is
+--   order-refused, order-accepted     an order that is refused, and one that is not; of a sound record none is
 --   order-either                  what holds of the record itself and of the record after the order holds of the record that the call gives
 --   Keeps, order-keeps            every order but reset leaves setting, position and ports as they were
 --   order-stays-sound, -ports     every order leaves a sound record sound, and the 128 ports
@@ -33,7 +33,7 @@ use Rattle.unit.specs.Reply.{refused, accepted}
 use Rattle.unit.specs.Refusals.{refusal, ofUnit}
 use Rattle.unit.specs.Sound.{Sound, AllPorts}
 use Rattle.unit.specs.laws.Sound.{sound-iff, sound-with}
-use Rattle.unit.specs.laws.Replies.{guarded-refused, guarded-done, either-way}
+use Rattle.unit.specs.laws.Replies.{guarded-refused, guarded-accepted, either-way}
 use Rattle.processor.specs.declared.orders.Order.{Order}
 use Rattle.processor.specs.declared.orders.Order.the-variants.{Reset, Iopls, Start, Doc, Dob, Dia, Dias, Tick}
 use Rattle.processor.specs.Processor.{resetPort, switched, resetUnit, valueOf, after, order, stops}
@@ -46,13 +46,13 @@ unfolding order
 order-refused u o h = guarded-refused _ u _ h
 
 -- an order that is not refused gives its result and the record after it
-pub order-done : (u : Mux) (o : Order) → refusal (ofUnit u) ≡ 0 → order u o ≡ accepted (valueOf o (u .irq)) (after o u)
+pub order-accepted : (u : Mux) (o : Order) → refusal (ofUnit u) ≡ 0 → order u o ≡ accepted (valueOf o (u .irq)) (after o u)
 unfolding order
-order-done u o e = guarded-done _ u _ e
+order-accepted u o e = guarded-accepted _ u _ e
 
 -- a sound record's order is done
 pub order-sound : (u : Mux) (o : Order) → Sound u → order u o ≡ accepted (valueOf o (u .irq)) (after o u)
-order-sound u o s = order-done u o (sound-iff u .1 s)
+order-sound u o s = order-accepted u o (sound-iff u .1 s)
 
 -- what holds of the record itself and of the record after the order holds of the record that the call gives
 pub order-either : (C : Mux → Type 0) (u : Mux) (o : Order) → C u → C (after o u) → C (order u o .mux)
@@ -124,7 +124,7 @@ unfolding after
 order-stays-sound u o s = order-either Sound u o s (go (reset-or-keeps u o))
   where
     go : (o ≡ Reset) ⊎ Keeps u (after o u) → Sound (after o u)
-    go (inl r) = rw r (sound-with u (resetUnit u) refl (s .setting .some-port) (Irqs.cleared-sound (u .irq)) s)
+    go (inl r) = rw r (sound-with u (resetUnit u) refl (s .setting .size .some-port) (Irqs.cleared-sound (u .irq)) s)
     go (inr k) = keeps-sound u (after o u) k s
 
 -- every order leaves the 128 ports
@@ -245,7 +245,7 @@ unfolding after
 dias-is u = go (ℕ-discrete (refusal (ofUnit u)) 0)
   where
     go : Dec (refusal (ofUnit u) ≡ 0) → order u Dias ≡ record { reply = order u Dia .reply; mux = order u Start .mux }
-    go (yes e) = rw (order-done u Dias e, order-done u Dia e, order-done u Start e)
+    go (yes e) = rw (order-accepted u Dias e, order-accepted u Dia e, order-accepted u Start e)
     go (no h) = rw (order-refused u Dias h, order-refused u Dia h, order-refused u Start h)
 
 -- a tick with the clock on

@@ -1,5 +1,5 @@
 -- Laws of one inspection (document 01, of that name). The services are not opened.
---   counted .. kind             which inspection is a turn: a sound running unit with 32,768 words always takes it
+--   runs-scans .. kind           which inspection is a turn: a sound running unit with 32,768 words always takes it
 --   scanned-input .. -idle      a held character means input; else an empty transmitter means output; else nothing is done
 --   served-says, served-names   what a turn that served answers
 --   Does, turn-does             what every turn of a port does, over what it reads
@@ -42,12 +42,12 @@ use Rattle.scan.specs.Scan.{nextPos, moved, lookedAt, serviceTurn, scann
 -- ---- which inspection is a turn
 
 -- a sound running unit with a memory of 32,768 words always takes its turn
-pub counted : (u : Mux) (m : List ℕ) → refusal (ofInspection u m) ≡ 0 → u .runs ≡ true → inspection u m ≡ scanned u m
+pub runs-scans : (u : Mux) (m : List ℕ) → refusal (ofInspection u m) ≡ 0 → u .runs ≡ true → inspection u m ≡ scanned u m
 unfolding inspection pick
-counted u m e r = rw (e, r)
+runs-scans u m e r = rw (e, r)
 
-pub sound-counted : (u : Mux) (m : List ℕ) → Sound u → u .runs ≡ true → length m ≡ WORDS → inspection u m ≡ scanned u m
-sound-counted u m s r w = counted u m (inspection-iff u m .1 (s, w)) r
+pub sound-scans : (u : Mux) (m : List ℕ) → Sound u → u .runs ≡ true → length m ≡ WORDS → inspection u m ≡ scanned u m
+sound-scans u m s r w = runs-scans u m (inspection-iff u m .1 (s, w)) r
 
 -- a stopped unit answers "nothing" and changes nothing
 pub stopped : (u : Mux) (m : List ℕ) → refusal (ofInspection u m) ≡ 0 → u .runs ≡ false → inspection u m ≡ looked (refused 0 u) m
@@ -68,7 +68,7 @@ pub kind : (u : Mux) (m : List ℕ) → Kind u m
 kind u m = go (ℕ-discrete (refusal (ofInspection u m)) 0) (u .runs) refl
   where
     go : Dec (refusal (ofInspection u m) ≡ 0) → (r : Bool) → u .runs ≡ r → Kind u m
-    go (yes e) true r = takes-turn e r (counted u m e r)
+    go (yes e) true r = takes-turn e r (runs-scans u m e r)
     go (yes e) false r = stands-still 0 e (stopped u m e r)
     go (no h) r e = stands-still (refusal (ofInspection u m)) refl (inspection-refused u m h)
 
@@ -118,7 +118,7 @@ served-names k u m = refl
 
 -- it is a turn's answer and names the port; it leaves a sound interrupt side sound, and the memory as long as it was
 pub record Does (p : ℕ) (i : Irq) (m : List ℕ) (t : Turning) : Type 0 where
-  pub counted : counts (t .turned .answer .turn) ≡ true
+  pub is-turn : counts (t .turned .answer .turn) ≡ true
   pub names : t .turned .answer .port ≡ p
   pub irq : unsound i ≡ false → unsound (t .turned .irq) ≡ false
   pub words : length (t .memory) ≡ length m
@@ -141,11 +141,11 @@ service-counts Output = refl
 served-does : (k : Service) (s : Setting) (p : ℕ) (q : Port) (i : Irq) (m : List ℕ) → Does p i m (servedTurn k s p q i m)
 unfolding servedTurn
 served-does k s p q i m =
-    record { counted = service-counts k; names = refl; irq = irq-sound s p i k _; words = service-length k m _ q }
+    record { is-turn = service-counts k; names = refl; irq = irq-sound s p i k _; words = service-length k m _ q }
 
 idle-does : (p : ℕ) (q : Port) (i : Irq) (m : List ℕ) → Does p i m (idleTurn p q i m)
 unfolding idleTurn counts
-idle-does p q i m = record { counted = refl; names = refl; irq = λ e. e; words = refl }
+idle-does p q i m = record { is-turn = refl; names = refl; irq = λ e. e; words = refl }
 
 -- every turn of a port
 pub turn-does : (s : Setting) (p : ℕ) (q : Port) (i : Irq) (m : List ℕ) → Does p i m (turn s p q i m)
@@ -172,7 +172,7 @@ turn-leaves s p q i m = go (turn-is s p q i m)
 -- the memory as long as it was
 pub record Moves (u : Mux) (m : List ℕ) (l : Looked) : Type 0 where
   pub code : l .reply .code ≡ 0
-  pub counted : counts (l .reply .answer .turn) ≡ true
+  pub is-turn : counts (l .reply .answer .turn) ≡ true
   pub names : l .reply .answer .port ≡ u .pos
   pub position : l .world .mux .pos ≡ (u .pos + 1) % u .setting .ports
   pub setting : l .world .mux .setting ≡ u .setting
@@ -191,7 +191,7 @@ scan-moves u m =
     let d = turn-does (u .setting) (u .pos) (portAt u (u .pos)) (u .irq) m in
     record {
       code = refl;
-      counted = d .counted;
+      is-turn = d .is-turn;
       names = d .names;
       position = refl;
       setting = refl;
@@ -206,7 +206,7 @@ scan-moves u m =
 -- the record is sound again
 pub moves-sound : (u : Mux) (m : List ℕ) (l : Looked) → Moves u m l → Sound u → Sound (l .world .mux)
 moves-sound u m l t s =
-    sound-with u (l .world .mux) (t .setting) (rw (t .position, ap (λ x. x .ports) (t .setting)) (mod-lt (u .pos + 1) (s .setting .some-port))) (t .irq) s
+    sound-with u (l .world .mux) (t .setting) (rw (t .position, ap (λ x. x .ports) (t .setting)) (mod-lt (u .pos + 1) (s .setting .size .some-port))) (t .irq) s
 
 -- an answer other than "nothing" names the port at the position
 pub answer-names : (u : Mux) (m : List ℕ) → counts (inspection u m .reply .answer .turn) ≡ true → inspection u m .reply .answer .port ≡ u .pos

@@ -4,7 +4,7 @@
 --   Looks                             so many inspections one after the other, and whether the last one raised an interrupt
 --   Sweeping, sweeps                    a sweep is the composition of the inspections it counts: n, or fewer only because the last one raised
 --   Listed, listed                    what the sweep leaves in the list
---   sweep-refused, sweep-done         the call
+--   sweep-refused, sweep-accepted         the call
 -- Assumes nothing.
 use mathlib.Core.Path.{_≡_, refl, sym, _∙_, ap}
 use mathlib.Core.Bool.{Bool, true, false, true≢false}
@@ -66,7 +66,7 @@ pub record Sweeping (n : ℕ) (s t : Going) : Type 0 where
   pub raised : Bool
   pub looks : Looks number raised s t
   pub few : number ≤ n
-  pub counted : t .made ≡ s .made + number
+  pub count : t .made ≡ s .made + number
   pub all : s .mux .runs ≡ true → raised ≡ false → number ≡ n
 
 -- one inspection more is counted as one
@@ -82,16 +82,16 @@ runs-on s = inspection-runs (s .mux) (s .memory)
 -- every sweep is one
 pub sweeps : (n : ℕ) (s : Going) → Sweeping n s (sweepFrom n s)
 sweeps zero s =
-    rw (sweep-end s) (record { number = 0; raised = false; looks = none; few = omega arith; counted = omega arith; all = λ r b. refl })
+    rw (sweep-end s) (record { number = 0; raised = false; looks = none; few = omega arith; count = omega arith; all = λ r b. refl })
 sweeps (suc n) s = go (s .mux .runs) refl (look s .reply .answer .raised) refl (sweeps n (going s (look s)))
   where
     go : (r : Bool) → s .mux .runs ≡ r → (i : Bool) → look s .reply .answer .raised ≡ i → Sweeping n (going s (look s)) (sweepFrom n (going s (look s))) → Sweeping (suc n) s (sweepFrom (suc n) s)
     go false er i ei rest =
         rw (sweep-stopped (suc n) s er)
-        (record { number = 0; raised = false; looks = none; few = omega arith; counted = omega arith; all = λ r b. absurd (true≢false (sym r ∙ er)) })
+        (record { number = 0; raised = false; looks = none; few = omega arith; count = omega arith; all = λ r b. absurd (true≢false (sym r ∙ er)) })
     go true er true ei rest =
         rw (sweep-raised n s er ei)
-        (record { number = 1; raised = true; looks = last er ei; few = omega arith; counted = one-more s (look s); all = λ r b. absurd (true≢false b) })
+        (record { number = 1; raised = true; looks = last er ei; few = omega arith; count = one-more s (look s); all = λ r b. absurd (true≢false b) })
     go true er false ei rest =
         rw (sweep-more n s er ei)
         (record {
@@ -99,7 +99,7 @@ sweeps (suc n) s = go (s .mux .runs) refl (look s .reply .answer .raised) refl (
           raised = rest .raised;
           looks = more er ei (rest .looks);
           few = omega arith;
-          counted = omega (arith, one-more s (look s), rest .counted);
+          count = omega (arith, one-more s (look s), rest .count);
           all = λ r b. ap suc (rest .all (runs-on s ∙ er) b);
         })
 
@@ -155,7 +155,7 @@ sweep-refused u m n xs h =
     pick-false (eqb (refusal (ofSweep u m n xs)) 0) (arrivedAt (sweepFrom n (setOut u m xs))) (outcome (refused (refusal (ofSweep u m n xs)) u) m xs) (ne-eqb _ _ h)
 
 -- a sweep that is not refused
-pub sweep-done : (u : Mux) (m : List ℕ) (n : ℕ) (xs : List ℕ) → refusal (ofSweep u m n xs) ≡ 0 → sweep u m n xs ≡ arrivedAt (sweepFrom n (setOut u m xs))
+pub sweep-accepted : (u : Mux) (m : List ℕ) (n : ℕ) (xs : List ℕ) → refusal (ofSweep u m n xs) ≡ 0 → sweep u m n xs ≡ arrivedAt (sweepFrom n (setOut u m xs))
 unfolding sweep
-sweep-done u m n xs e =
+sweep-accepted u m n xs e =
     pick-true (eqb (refusal (ofSweep u m n xs)) 0) (arrivedAt (sweepFrom n (setOut u m xs))) (outcome (refused (refusal (ofSweep u m n xs)) u) m xs) (eq-eqb _ _ e)

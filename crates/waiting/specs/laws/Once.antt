@@ -23,7 +23,7 @@ use Rattle.unit.specs.Reply.{turnNumber, counts, World}
 use Rattle.scan.specs.Turn.{idleTurn}
 use Rattle.scan.specs.Scan.{scanned}
 use Rattle.scan.specs.laws.Scan.{scanned-output, scanned-idle, served-says, scan-moves, turn-takes}
-use Rattle.calls.specs.Events.{Single, act, after, singles, counted, serviceAt, inputAt, arrivesAt}
+use Rattle.calls.specs.Events.{Single, result, after, singles, counted, serviceAt, inputAt, arrivesAt}
 use Rattle.waiting.specs.Waiting.{NotAgain}
 use Rattle.waiting.specs.laws.View.{View, turn, arrives, stop, quiet, view, turn-moves}
 
@@ -40,11 +40,11 @@ bit-le false = omega arith
 -- what does not count does not go to input
 uncounted-input : (p : ℕ) (w : World) (a : Single) → counted w a ≡ false → inputAt p w a ≡ false
 unfolding counted counts serviceAt
-uncounted-input p w a n = rw (eqb-true (turnNumber (act w a .reply .answer .turn)) 0 (not-false _ n))
+uncounted-input p w a n = rw (eqb-true (turnNumber (result w a .reply .answer .turn)) 0 (not-false _ n))
 
 -- ---- a turn
 
-module _ (w : World) (a : Single) (t : act w a ≡ scanned (w .mux) (w .memory)) where
+module _ (w : World) (a : Single) (t : result w a ≡ scanned (w .mux) (w .memory)) where
   -- that of another port does not go to port p's input
   other-input : (p : ℕ) → (w .mux .pos ≡ p → ⊥) → inputAt p w a ≡ false
   unfolding serviceAt
@@ -81,7 +81,7 @@ held-step : (p : ℕ) (w : World) (a : Single) → bit (inputAt p w a) + bit (he
 unfolding bit
 held-step p w a = go (view p w a)
   where
-    turned : Dec (w .mux .pos ≡ p) → act w a ≡ scanned (w .mux) (w .memory) → bit (inputAt p w a) + bit (held p (after w a)) ≤ bit (arrivesAt p w a) + bit (held p w)
+    turned : Dec (w .mux .pos ≡ p) → result w a ≡ scanned (w .mux) (w .memory) → bit (inputAt p w a) + bit (held p (after w a)) ≤ bit (arrivesAt p w a) + bit (held p w)
     turned (yes e) t = rw (← e) (omega (arith, own-takes w a t, ap bit (own-left w a t)))
     turned (no h) t = omega (arith, ap bit (other-input w a t p h), ap (λ q. bit (q .held)) (turn-moves p w a t .other h))
 

@@ -29,10 +29,10 @@ use Rattle.unit.specs.laws.Ports.{empty-inside}
 use Rattle.lines.specs.declared.signal.Signal.the-variants.{Arrival}
 use Rattle.lines.specs.laws.Lines.{arrived, Marked}
 use Rattle.scan.specs.Scan.{serviceTurn, scanned}
-use Rattle.scan.specs.laws.Scan.{sound-counted, scan-moves, scanned-input, scanned-output, served-says, served-names, service-empty}
+use Rattle.scan.specs.laws.Scan.{sound-scans, scan-moves, scanned-input, scanned-output, served-says, served-names, service-empty}
 use Rattle.calls.specs.declared.call.Act.the-variants.{Line, Inspect}
-use Rattle.calls.specs.Calls.{done}
-use Rattle.calls.specs.Events.{Single, does, act, after, runSingles, singles, counted, turnAt, serviceAt, inputAt, echoAt, arrivesAt, breaks}
+use Rattle.calls.specs.Calls.{performed}
+use Rattle.calls.specs.Events.{Single, does, result, after, runSingles, singles, counted, turnAt, serviceAt, inputAt, echoAt, arrivesAt, breaks}
 use Rattle.calls.specs.laws.Singles.{run-singles, sweep-counts}
 use Rattle.waiting.specs.Waiting.{P, Running, Holds, Empty, turns, inputs, Soon, SoonFor, NotAgain, Served, Replaced, Fate, Handed, OutputFate, Always, Rotation, FirstBound, SecondBound, Demand}
 use Rattle.waiting.specs.laws.View.{Stays, Leaves, leaves-same, View, turn, arrives, stop, quiet, line-stays, view, turn-counts, turn-moves}
@@ -51,7 +51,7 @@ module _ (p : ℕ) (own : World → Single → Bool) (C : World → Type 0) (End
     left : (w v : World) → Leaves (portAt (w .mux) p) (portAt (v .mux) p) → C w → C v
     stopped : (w : World) (a : Single) → breaks w a ≡ true → End w a
     arrival : (w : World) (a : Single) → C w → arrivesAt p w a ≡ true → (Empty p w → Empty p (after w a)) → (portAt (w .mux) p .held ≡ true → Marked (portAt (after w a .mux) p)) → End w a ⊎ C (after w a)
-    own-turn : (w : World) (a : Single) → C w → a ≡ does Inspect → at w ≡ p → act w a ≡ scanned (w .mux) (w .memory) → End w a ⊎ (C (after w a) × (own w a ≡ true))
+    own-turn : (w : World) (a : Single) → C w → a ≡ does Inspect → at w ≡ p → result w a ≡ scanned (w .mux) (w .memory) → End w a ⊎ (C (after w a) × (own w a ≡ true))
 
   -- it goes on in a running unit of N ports
   record On (N : ℕ) (w : World) : Type 0 where
@@ -72,7 +72,7 @@ module _ (p : ℕ) (own : World → Single → Bool) (C : World → Type 0) (End
       stays n s c = rests (record { running = s .running (o .running); ports = s .ports ∙ o .ports; meanwhile = c }) n (s .pos)
 
       -- a turn
-      moves : act w a ≡ scanned (w .mux) (w .memory) → C (after w a) → (at w ≡ p → own w a ≡ true) → Goes after at N p counted own (On N) End w a
+      moves : result w a ≡ scanned (w .mux) (w .memory) → C (after w a) → (at w ≡ p → own w a ≡ true) → Goes after at N p counted own (On N) End w a
       moves t c spent =
           let m = turn-moves p w a t in
           passes
@@ -112,7 +112,7 @@ module _ (p : ℕ) (own : World → Single → Bool) (C : World → Type 0) (End
 
 -- a single thing that ends its wait
 data HeldEnd (p : ℕ) (w : World) (a : Single) : Type 0 where
-  taken : a ≡ does Inspect → at w ≡ p → act w a ≡ serviceTurn Input (w .mux) (w .memory) → NotAgain p (after w a) → HeldEnd p w a
+  taken : a ≡ does Inspect → at w ≡ p → result w a ≡ serviceTurn Input (w .mux) (w .memory) → NotAgain p (after w a) → HeldEnd p w a
   pushed : arrivesAt p w a ≡ true → Marked (portAt (after w a .mux) p) → HeldEnd p w a
   stopped : breaks w a ≡ true → HeldEnd p w a
 
@@ -153,26 +153,26 @@ input-fate w p c xs r b h = go (waits-for p none (Holds p c) (HeldEnd p) (held-w
 
 -- a single thing that ends its wait
 data FreeEnd (p : ℕ) (w : World) (a : Single) : Type 0 where
-  given : a ≡ does Inspect → at w ≡ p → act w a ≡ serviceTurn Output (w .mux) (w .memory) → FreeEnd p w a
+  given : a ≡ does Inspect → at w ≡ p → result w a ≡ serviceTurn Output (w .mux) (w .memory) → FreeEnd p w a
   filled : echoAt p w a ≡ true → FreeEnd p w a
   stopped : breaks w a ≡ true → FreeEnd p w a
 
 -- a turn that goes to input says so
-says-input : (w : World) (a : Single) → act w a ≡ serviceTurn Input (w .mux) (w .memory) → inputAt (at w) w a ≡ true
+says-input : (w : World) (a : Single) → result w a ≡ serviceTurn Input (w .mux) (w .memory) → inputAt (at w) w a ≡ true
 unfolding serviceAt
 says-input w a t =
     rw (t, served-says Input (w .mux) (w .memory), served-names Input (w .mux) (w .memory)) (eq-eqb (at w) (at w) refl)
 
 -- and says that an echo was handed over
-says-echo : (w : World) (a : Single) → act w a ≡ serviceTurn Input (w .mux) (w .memory) → serviceTurn Input (w .mux) (w .memory) .reply .answer .sent ≡ true → echoAt (at w) w a ≡ true
+says-echo : (w : World) (a : Single) → result w a ≡ serviceTurn Input (w .mux) (w .memory) → serviceTurn Input (w .mux) (w .memory) .reply .answer .sent ≡ true → echoAt (at w) w a ≡ true
 unfolding echoAt
 says-echo w a t s = rw (says-input w a t, t) s
 
 -- a port's own turn, its transmitter empty: output, or input with an echo, or input that leaves it empty
-own-free : (w : World) (a : Single) → a ≡ does Inspect → act w a ≡ scanned (w .mux) (w .memory) → Empty (at w) w → FreeEnd (at w) w a ⊎ (Empty (at w) (after w a) × (inputAt (at w) w a ≡ true))
+own-free : (w : World) (a : Single) → a ≡ does Inspect → result w a ≡ scanned (w .mux) (w .memory) → Empty (at w) w → FreeEnd (at w) w a ⊎ (Empty (at w) (after w a) × (inputAt (at w) w a ≡ true))
 own-free w a i t h = go (portAt (w .mux) (at w) .held) refl (serviceTurn Input (w .mux) (w .memory) .reply .answer .sent) refl
   where
-    taking : portAt (w .mux) (at w) .held ≡ true → act w a ≡ serviceTurn Input (w .mux) (w .memory)
+    taking : portAt (w .mux) (at w) .held ≡ true → result w a ≡ serviceTurn Input (w .mux) (w .memory)
     taking e = t ∙ scanned-input (w .mux) (w .memory) e
 
     go : (held : Bool) → portAt (w .mux) (at w) .held ≡ held → (sent : Bool) → serviceTurn Input (w .mux) (w .memory) .reply .answer .sent ≡ sent → FreeEnd (at w) w a ⊎ (Empty (at w) (after w a) × (inputAt (at w) w a ≡ true))
@@ -215,15 +215,15 @@ output-fate w p xs r b h = go (waits-for p (inputAt p) (Empty p) (FreeEnd p) (fr
 
 -- an inspection of a running unit with its memory counts
 always-counts : Always
-unfolding counted act done
-always-counts w r h = rw (sound-counted (w .mux) (w .memory) (r .sound) (r .runs) h) (scan-moves (w .mux) (w .memory) .counted)
+unfolding counted result performed
+always-counts w r h = rw (sound-scans (w .mux) (w .memory) (r .sound) (r .runs) h) (scan-moves (w .mux) (w .memory) .is-turn)
 
 -- port p's turn is a turn with the position at p
 turn-at : (p : ℕ) (w : World) (a : Single) → turnAt p w a ≡ (counted w a && eqb (at w) p)
 unfolding turnAt
 turn-at p w a = go (view p w a)
   where
-    go : View p w a → (counted w a && eqb (act w a .reply .answer .port) p) ≡ (counted w a && eqb (at w) p)
+    go : View p w a → (counted w a && eqb (result w a .reply .answer .port) p) ≡ (counted w a && eqb (at w) p)
     go (turn i t) = ap (λ x. counted w a && eqb x p) (ap (λ l. l .reply .answer .port) t ∙ scan-moves (w .mux) (w .memory) .names)
     go (arrives n c s e m) = rw n
     go (stop n b h) = rw n
@@ -266,9 +266,9 @@ each-port-once w es p r h b e =
 
 -- the port holds the character that arrived
 arrival-held : (v : World) (p b : ℕ) (parity brk : Bool) → Running v → AllPorts (v .mux) → p < P v → portAt (after v (does (Line p (Arrival b parity brk))) .mux) p .held ≡ true
-unfolding act done
+unfolding result performed
 arrival-held v p b parity brk r n h =
-    let few = r .sound .setting .few-ports in
+    let few = r .sound .setting .size .few-ports in
     ap (λ q. q .held) (arrived (v .mux) p b parity brk (port-iff (v .mux) p .1 (r .sound, h)) (omega arith))
 
 -- the first bound

@@ -19,23 +19,23 @@ use Rattle.unit.specs.declared.mux.Mux.{Mux}
 use Rattle.unit.specs.Record.{noPort, freshPort, fresh, portAt}
 use Rattle.unit.specs.Reply.{counts, refused, accepted, World, world, Looked, looked}
 use Rattle.unit.specs.Refusals.{refusal, ofSetup, ofUnit, ofPort}
-use Rattle.unit.specs.laws.Replies.{setup-done}
+use Rattle.unit.specs.laws.Replies.{setup-accepted}
 use Rattle.unit.specs.laws.Ports.{empty-inside}
 use Rattle.lines.specs.declared.signal.Signal.{Signal}
 use Rattle.lines.specs.declared.signal.Signal.the-variants.{Arrival, TransmitterEmpty, DeviceStatus}
 use Rattle.lines.specs.Lines.{signalled, line}
-use Rattle.lines.specs.laws.Lines.{line-refused, line-done, line-keeps, line-sound, line-written, arrived, Marked, replaced}
+use Rattle.lines.specs.laws.Lines.{line-refused, line-accepted, line-keeps, line-sound, line-written, arrived, Marked, replaced}
 use Rattle.processor.specs.declared.orders.Order.{Order}
 use Rattle.processor.specs.declared.orders.Order.the-variants.{Reset, Iopls, Start, Doc, Dob, Dia, Dias, Tick}
 use Rattle.processor.specs.Processor.{resetPort, order, stops}
 use Rattle.processor.specs.Processor as Processor
-use Rattle.processor.specs.laws.Processor.{order-refused, order-done, isReset, order-keeps, order-stays-sound, runs-on}
+use Rattle.processor.specs.laws.Processor.{order-refused, order-accepted, isReset, order-keeps, order-stays-sound, runs-on}
 use Rattle.scan.specs.Scan.{scanned}
 use Rattle.scan.specs.laws.Scan.{Kind, takes-turn, stands-still, kind, scan-moves, moves-sound}
 use Rattle.calls.specs.declared.call.Act.the-variants.{Line, Processor, Inspect}
-use Rattle.calls.specs.Calls.{settingUp, setUp, done, stepOf, givenOf}
+use Rattle.calls.specs.Calls.{settingUp, setUp, performed, stepOf, givenOf}
 use Rattle.calls.specs.laws.Refusals.{step-refuses}
-use Rattle.calls.specs.Events.{Single, setsUp, does, writes, act, after, counted, taken, isArrival, bringsTo, arrivesAt, isBreak, breaks}
+use Rattle.calls.specs.Events.{Single, setsUp, does, writes, result, after, counted, taken, isArrival, bringsTo, arrivesAt, isBreak, breaks}
 use Rattle.waiting.specs.Waiting.{P, Running, Empty}
 
 -- the position stays, and a unit that runs runs on
@@ -60,7 +60,7 @@ module _ (p : ℕ) (w : World) (a : Single) where
 
   -- what a single thing does
   pub data View : Type 0 where
-    turn : a ≡ does Inspect → act w a ≡ scanned (w .mux) (w .memory) → View
+    turn : a ≡ does Inspect → result w a ≡ scanned (w .mux) (w .memory) → View
     arrives : counted w a ≡ false → arrivesAt p w a ≡ true → Stays w (after w a) → (Empty p w → Empty p (after w a)) → (now .held ≡ true → Marked then) → View
     stop : counted w a ≡ false → breaks w a ≡ true → (then .held ≡ false) ⊎ (then .held ≡ now .held) → View
     quiet : counted w a ≡ false → Stays w (after w a) → Leaves now then → View
@@ -72,7 +72,7 @@ leaves-same x y e = rw e (record { held = refl; same = refl; empty = λ i. i })
 -- ---- refused or not
 
 -- what is refused, or done to a stopped unit, leaves everything
-refused-view : (p : ℕ) (w : World) (a : Single) (k : ℕ) → act w a ≡ looked (refused k (w .mux)) (w .memory) → View p w a
+refused-view : (p : ℕ) (w : World) (a : Single) (k : ℕ) → result w a ≡ looked (refused k (w .mux)) (w .memory) → View p w a
 unfolding counted counts
 refused-view p w a k e =
     quiet
@@ -85,7 +85,7 @@ record Accepted (w : World) (a : Single) : Type 0 where
   uncounted : counted w a ≡ false
   unrefused : taken w a ≡ true
 
-accepts : (w : World) (a : Single) (v : ℕ) (u : Mux) → act w a ≡ looked (accepted v u) (w .memory) → Accepted w a
+accepts : (w : World) (a : Single) (v : ℕ) (u : Mux) → result w a ≡ looked (accepted v u) (w .memory) → Accepted w a
 unfolding counted counts taken
 accepts w a v u e = record { uncounted = ap (λ l. counts (l .reply .answer .turn)) e; unrefused = rw e }
 
@@ -99,22 +99,22 @@ fresh-held (suc n) (suc p) = fresh-held n p
 
 -- a setup that is taken drops everything, and a refused one leaves the record that stands
 setup-view : (p : ℕ) (w : World) (s : Setting) → View p w (setsUp s)
-unfolding act setUp pick breaks isBreak portAt stepOf givenOf
+unfolding result setUp pick breaks isBreak portAt stepOf givenOf
 setup-view p w s = go (ℕ-discrete (refusal (ofSetup s)) 0)
   where
     go : Dec (refusal (ofSetup s) ≡ 0) → View p w (setsUp s)
     go (no h) =
         refused-view p w (setsUp s) _ (ap (λ o. record { reply = o .reply; world = o .world }) (step-refuses w [] (settingUp s) .keeps h))
     go (yes z) =
-        let d = accepts w (setsUp s) 0 (fresh s) (rw (setup-done s z)) in
-        stop (d .uncounted) (d .unrefused) (inl (rw (setup-done s z) (fresh-held 128 p)))
+        let d = accepts w (setsUp s) 0 (fresh s) (rw (setup-accepted s z)) in
+        stop (d .uncounted) (d .unrefused) (inl (rw (setup-accepted s z) (fresh-held 128 p)))
 
 -- ---- the lines
 
 module _ (w : World) (q : ℕ) (e : Signal) where
   -- a signal leaves the position, and a unit that runs runs on
   pub line-stays : Stays w (after w (does (Line q e)))
-  unfolding act done
+  unfolding result performed
   line-stays =
       let k = line-keeps (w .mux) q e in
       record {
@@ -124,14 +124,14 @@ module _ (w : World) (q : ℕ) (e : Signal) where
       }
 
   -- one that is not refused
-  line-accepted : refusal (ofPort (w .mux) q) ≡ 0 → Accepted w (does (Line q e))
-  unfolding act done
-  line-accepted z = accepts w (does (Line q e)) 0 _ (ap (λ r. looked r (w .memory)) (line-done (w .mux) q e z))
+  takes-line : refusal (ofPort (w .mux) q) ≡ 0 → Accepted w (does (Line q e))
+  unfolding result performed
+  takes-line z = accepts w (does (Line q e)) 0 _ (ap (λ r. looked r (w .memory)) (line-accepted (w .mux) q e z))
 
   -- it is quiet where it leaves what port p holds
   line-quiet : (p : ℕ) → refusal (ofPort (w .mux) q) ≡ 0 → Leaves (portAt (w .mux) p) (portAt (line (w .mux) q e .mux) p) → View p w (does (Line q e))
-  unfolding act done
-  line-quiet p z l = quiet (line-accepted z .uncounted) line-stays l
+  unfolding result performed
+  line-quiet p z l = quiet (takes-line z .uncounted) line-stays l
 
 -- at port p itself, a signal that leaves what it holds
 own-quiet : (p : ℕ) (w : World) (e : Signal) → refusal (ofPort (w .mux) p) ≡ 0 → Leaves (portAt (w .mux) p) (signalled (portAt (w .mux) p) e) → View p w (does (Line p e))
@@ -143,9 +143,9 @@ own-quiet p w e z l = line-quiet w p e p z (go (line-written (w .mux) p e))
 
 -- at port p itself: a character replaces one that was held, with the mark; no other signal touches what is held
 own-line : (p : ℕ) (w : World) (e : Signal) → refusal (ofPort (w .mux) p) ≡ 0 → View p w (does (Line p e))
-unfolding act done arrivesAt bringsTo isArrival signalled
+unfolding result performed arrivesAt bringsTo isArrival signalled
 own-line p w (Arrival c parity brk) z =
-    let d = line-accepted w p (Arrival c parity brk) z in
+    let d = takes-line w p (Arrival c parity brk) z in
     arrives
     (d .uncounted)
     (rw (eq-eqb p p refl) (d .unrefused))
@@ -157,7 +157,7 @@ own-line p w (DeviceStatus level) z = own-quiet p w (DeviceStatus level) z (reco
 
 -- a signal: refused, at another port, or at port p
 line-view : (p : ℕ) (w : World) (q : ℕ) (e : Signal) → View p w (does (Line q e))
-unfolding act done
+unfolding result performed
 line-view p w q e = go (ℕ-discrete (refusal (ofPort (w .mux) q)) 0) (ℕ-discrete q p)
   where
     go : Dec (refusal (ofPort (w .mux) q) ≡ 0) → Dec (q ≡ p) → View p w (does (Line q e))
@@ -181,17 +181,17 @@ module _ (p : ℕ) (w : World) where
   order-leaves o h = ap (λ l. getD l p noPort) (order-keeps (w .mux) o h .port)
 
   -- an order that is not refused
-  order-accepted : (o : Order) → refusal (ofUnit (w .mux)) ≡ 0 → Accepted w (does (Processor o))
-  unfolding act done
-  order-accepted o z = accepts w (does (Processor o)) _ _ (ap (λ r. looked r (w .memory)) (order-done (w .mux) o z))
+  takes-order : (o : Order) → refusal (ofUnit (w .mux)) ≡ 0 → Accepted w (does (Processor o))
+  unfolding result performed
+  takes-order o z = accepts w (does (Processor o)) _ _ (ap (λ r. looked r (w .memory)) (order-accepted (w .mux) o z))
 
   -- an order that neither resets nor stops the unit
   order-quiet : (o : Order) → isReset o ≡ false → stops o ≡ false → refusal (ofUnit (w .mux)) ≡ 0 → View p w (does (Processor o))
-  unfolding act done
+  unfolding result performed
   order-quiet o h n z =
       let k = order-keeps (w .mux) o h in
       quiet
-      (order-accepted o z .uncounted)
+      (takes-order o z .uncounted)
       (record {
         running = λ r. record { sound = order-stays-sound (w .mux) o (r .sound); runs = runs-on (w .mux) o n (r .runs) };
         ports = ap (λ s. s .ports) (k .setting);
@@ -201,12 +201,12 @@ module _ (p : ℕ) (w : World) where
 
   -- each order, not refused
   own-order : (o : Order) → refusal (ofUnit (w .mux)) ≡ 0 → View p w (does (Processor o))
-  unfolding act done breaks isBreak portAt Processor.after
+  unfolding result performed breaks isBreak portAt Processor.after
   own-order Reset z =
-      let d = order-accepted Reset z in
-      stop (d .uncounted) (d .unrefused) (inl (rw (order-done (w .mux) Reset z) (reset-held (w .mux .port) p)))
+      let d = takes-order Reset z in
+      stop (d .uncounted) (d .unrefused) (inl (rw (order-accepted (w .mux) Reset z) (reset-held (w .mux .port) p)))
   own-order Dob z =
-      let d = order-accepted Dob z in
+      let d = takes-order Dob z in
       stop (d .uncounted) (d .unrefused) (inr (ap (λ q. q .held) (order-leaves Dob refl)))
   own-order Iopls z = order-quiet Iopls refl refl z
   own-order Start z = order-quiet Start refl refl z
@@ -217,7 +217,7 @@ module _ (p : ℕ) (w : World) where
 
   -- an order
   order-view : (o : Order) → View p w (does (Processor o))
-  unfolding act done
+  unfolding result performed
   order-view o = go (ℕ-discrete (refusal (ofUnit (w .mux))) 0)
     where
       go : Dec (refusal (ofUnit (w .mux)) ≡ 0) → View p w (does (Processor o))
@@ -228,7 +228,7 @@ module _ (p : ℕ) (w : World) where
 
 -- a turn, or nothing at all
 inspect-view : (p : ℕ) (w : World) → View p w (does Inspect)
-unfolding act done
+unfolding result performed
 inspect-view p w = go (kind (w .mux) (w .memory))
   where
     go : Kind (w .mux) (w .memory) → View p w (does Inspect)
@@ -237,7 +237,7 @@ inspect-view p w = go (kind (w .mux) (w .memory))
 
 -- the memory is no part of what waits
 write-view : (p : ℕ) (w : World) (m : List ℕ) → View p w (writes m)
-unfolding act counted counts
+unfolding result counted counts
 write-view p w m =
     quiet refl (record { running = λ r. record { sound = r .sound; runs = r .runs }; ports = refl; pos = refl }) (leaves-same _ _ refl)
 
@@ -252,9 +252,9 @@ view p w (writes m) = write-view p w m
 -- ---- a turn
 
 -- it counts
-pub turn-counts : (w : World) (a : Single) → act w a ≡ scanned (w .mux) (w .memory) → counted w a ≡ true
+pub turn-counts : (w : World) (a : Single) → result w a ≡ scanned (w .mux) (w .memory) → counted w a ≡ true
 unfolding counted
-turn-counts w a e = rw e (scan-moves (w .mux) (w .memory) .counted)
+turn-counts w a e = rw e (scan-moves (w .mux) (w .memory) .is-turn)
 
 -- the unit runs on, one position further; every port but the one whose turn it was is as it was
 pub record Moved (p : ℕ) (w v : World) : Type 0 where
@@ -264,7 +264,7 @@ pub record Moved (p : ℕ) (w v : World) : Type 0 where
   pub other : (w .mux .pos ≡ p → ⊥) → portAt (v .mux) p ≡ portAt (w .mux) p
 
 -- every turn
-pub turn-moves : (p : ℕ) (w : World) (a : Single) → act w a ≡ scanned (w .mux) (w .memory) → Moved p w (after w a)
+pub turn-moves : (p : ℕ) (w : World) (a : Single) → result w a ≡ scanned (w .mux) (w .memory) → Moved p w (after w a)
 turn-moves p w a e =
     let l = scanned (w .mux) (w .memory) in
     let t = scan-moves (w .mux) (w .memory) in
