@@ -1,0 +1,65 @@
+-- Laws of the door (document 01, the table of refusals, and what a proof here has to nail).
+--   call-number            what is said through the door has the table's number
+--   AsItWas, call-refused  a refusal leaves the lent record, the memory and the list as they were, and no further result
+--   Same, call-one         any two outcomes that the door's contract allows are equal
+-- Not here: the case analysis of the calls, in laws/Refusals and laws/Outcomes of the crate calls.
+-- Assumes nothing.
+use mathlib.Core.Path.{_≡_, _∙_, ap}
+use mathlib.Core.List.{List}
+use Prim.Native.Nat.{ℕ}
+use Rattle.unit.specs.declared.mux.Mux.{Mux}
+use Rattle.unit.specs.declared.reply.Reply.{Reply}
+use Rattle.unit.specs.declared.reply.Replied.{Replied}
+use Rattle.unit.specs.Reply.{nothing, world, Outcome}
+use Rattle.unit.specs.Refusals.{refusal}
+use Rattle.calls.specs.declared.call.Call.{Call}
+use Rattle.calls.specs.Calls.{step, givenOf}
+use Rattle.calls.specs.laws.Refusals.{step-refuses}
+use Rattle.calls.specs.laws.Outcomes.{one-outcome}
+use Rattle.door.specs.Door.{lent}
+
+-- the record v, the memory n and the list ys are u, m and xs, and the reply has no further result
+pub record AsItWas (u v : Mux) (m n xs ys : List ℕ) (r : Reply) : Type 0 where
+  pub mux : v ≡ u
+  pub memory : n ≡ m
+  pub list : ys ≡ xs
+  pub value : r .value ≡ 0
+  pub answer : r .answer ≡ nothing
+  pub made : r .made ≡ 0
+  pub used : r .used ≡ 0
+
+module _ (u v : Mux) (m n xs ys : List ℕ) (c : Call) (r : Reply) (e : lent r v n ys ≡ step (world u m) xs c) where
+  -- the number is the table's
+  pub call-number : r .code ≡ refusal (givenOf (world u m) xs (c .setting) (c .what))
+  call-number = ap (λ (o : Outcome). o .reply .code) e ∙ step-refuses (world u m) xs c .number
+
+  -- a refusal changes nothing
+  pub call-refused : (r .code ≡ 0 → ⊥) → AsItWas u v m n xs ys r
+  call-refused h =
+      let same = e ∙ step-refuses (world u m) xs c .keeps (λ z. h (call-number ∙ z)) in
+      record {
+        mux = ap (λ (o : Outcome). o .world .mux) same;
+        memory = ap (λ (o : Outcome). o .world .memory) same;
+        list = ap (λ (o : Outcome). o .list) same;
+        value = ap (λ (o : Outcome). o .reply .value) same;
+        answer = ap (λ (o : Outcome). o .reply .answer) same;
+        made = ap (λ (o : Outcome). o .reply .made) same;
+        used = ap (λ (o : Outcome). o .reply .used) same;
+      }
+
+-- two outcomes of the door that are the same in every part
+pub record Same (r s : Reply) (u v : Mux) (m n xs ys : List ℕ) : Type 0 where
+  pub reply : r ≡ s
+  pub mux : u ≡ v
+  pub memory : m ≡ n
+  pub list : xs ≡ ys
+
+-- whatever two outcomes meet the door's contract are the same
+pub call-one :
+    (u : Mux) (m xs : List ℕ) (c : Call) (r s : Reply) (u₁ u₂ : Mux) (m₁ m₂ xs₁ xs₂ : List ℕ) →
+    lent r u₁ m₁ xs₁ ≡ step (world u m) xs c →
+    lent s u₂ m₂ xs₂ ≡ step (world u m) xs c →
+    Same r s u₁ u₂ m₁ m₂ xs₁ xs₂
+call-one u m xs c r s u₁ u₂ m₁ m₂ xs₁ xs₂ p q =
+    let one = one-outcome .step-one (world u m) xs c (record { reply = r; mux = u₁ }) (record { reply = s; mux = u₂ }) m₁ m₂ xs₁ xs₂ p q in
+    record { reply = ap (λ (x : Replied). x .reply) (one .0); mux = ap (λ (x : Replied). x .mux) (one .0); memory = one .1 .0; list = one .1 .1 }
