@@ -9,7 +9,7 @@ in the session, the order, both lines. Exit status 0 only where all lines agree.
 import sys
 from itertools import zip_longest
 
-import play
+import drive
 
 
 def first_difference(text, expected, got):
@@ -18,13 +18,13 @@ def first_difference(text, expected, got):
     session, call = 1, 0
     for order in text:
         op = int(order.split()[0])
-        call += op in play.CALLS
-        if op in play.CALLS or op in (play.DIGEST, play.END):
+        call += op in drive.CALLS
+        if op in drive.CALLS or op in (drive.DIGEST, drive.END):
             want, have = next(expected, None), next(got, None)
             if want != have or want is None:
-                return (f'session {session}, call {call}: {play.NAMES[op]}: {order}\n'
+                return (f'session {session}, call {call}: {drive.NAMES[op]}: {order}\n'
                         f'expected {want}\ngot      {have}')
-        if op == play.END:
+        if op == drive.END:
             session, call = session + 1, 0
     for want, have in zip_longest(expected, got):
         return f'after the last session\nexpected {want}\ngot      {have}'

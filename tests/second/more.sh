@@ -4,7 +4,7 @@
 #   tests/second/more.sh SEED SESSIONS [PROGRAM]      PROGRAM as for gate.sh
 [ $# -ge 2 ] || { sed -n '2,4p' "$0"; exit 2; }
 here=$(cd "$(dirname "$0")" && pwd)
-seed=$1 left=$2 program=${3:-$here/../../target/bin/play}
+seed=$1 left=$2 program=${3:-$here/../../target/bin/compared}
 room=$(mktemp -d) || exit 2
 trap 'rm -rf "$room"' EXIT
 

@@ -12,7 +12,7 @@ import sys
 import time
 import types
 
-import play
+import drive
 import sessions
 
 SOURCE = pathlib.Path(__file__).with_name('mux2.py').read_text()
@@ -255,12 +255,12 @@ def program(old, new):
 
 def first_difference(mutant, author):
     """The number of the first call that the mutant answers otherwise, or None."""
-    player = play.Player(mutant)
+    driver = drive.Driver(mutant)
     printed = iter(author.printed)
     call = 0
     for order in author.orders:
-        call += order[0] in play.CALLS
-        line = player.play(order)
+        call += order[0] in drive.CALLS
+        line = driver.drive(order)
         if line is not None and line != next(printed):
             return call
     return None

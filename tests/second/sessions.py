@@ -1,14 +1,14 @@
 """Writes sessions from a seed: long runs of calls and host writes that look for trouble.
 
-An author plays each order on the second program as it writes it, so that it
+An author drives each order on the second program as it writes it, so that it
 knows which port comes next, whether a transmitter is busy, where a buffer lies.
 Only `Random.random` is used: its sequence is the same in every Python.
 """
 
 from random import Random
 
+import drive
 import mux2
-import play
 
 SEED, SESSIONS = 1974, 220          # the fixed set of the gate
 DIGEST_EVERY = 256                  # printed lines between two whole digests
@@ -46,8 +46,8 @@ class Author:
         settings = {**USUAL, **TRAITS, **KINDS[self.kind]}
         self.traits = {name: settings[name] for name in TRAITS}
         self.actions = {name: settings[name] for name in USUAL}
-        self.player = play.Player()
-        self.mux = self.player.mux
+        self.driver = drive.Driver()
+        self.mux = self.driver.mux
         self.orders, self.printed = [], []
         self.calls = self.serving = 0
 
@@ -81,15 +81,15 @@ class Author:
 
     def do(self, *order):
         before = self.mux.services
-        line = self.player.play(order)
+        line = self.driver.drive(order)
         self.orders.append(order)
-        if order[0] in play.CALLS:
+        if order[0] in drive.CALLS:
             self.calls += 1
             self.serving += self.mux.services > before
         if line is not None:
             self.printed.append(line)
-            if order[0] < play.DIGEST and len(self.printed) % DIGEST_EVERY == 0:
-                self.do(play.DIGEST)
+            if order[0] < drive.DIGEST and len(self.printed) % DIGEST_EVERY == 0:
+                self.do(drive.DIGEST)
 
     def block(self, p):
         return self.unit.base + p * self.unit.block
@@ -105,10 +105,10 @@ class Author:
         return min(address, 32760)
 
     def inspect(self):
-        self.do(play.INSPECT, self.look())
+        self.do(drive.INSPECT, self.look())
 
     def write(self, address, word):
-        self.do(play.WRITE, address, word)
+        self.do(drive.WRITE, address, word)
 
     # Numbers that make trouble.
 
@@ -166,7 +166,7 @@ class Author:
             self.write(block + 7, self.end(pointer))
 
     def arrival(self, p):
-        self.do(play.ARRIVAL, p, self.byte(), int(self.chance(0.15)), int(self.chance(0.1)))
+        self.do(drive.ARRIVAL, p, self.byte(), int(self.chance(0.15)), int(self.chance(0.1)))
 
     def done(self, p, word):
         return self.mux.memory.word(self.block(p) + word) >= 32768
@@ -177,7 +177,7 @@ class Author:
             if self.chance(0.9 if self.done(p, 0) else 0.5):
                 self.set_input(p)
             if not port.empty and not self.trait('busy'):
-                self.do(play.TRANSMITTED, p)
+                self.do(drive.TRANSMITTED, p)
             if not port.held or self.chance(0.1):
                 self.arrival(p)
             while self.chance(0.06):
@@ -186,9 +186,9 @@ class Author:
             if self.chance(0.9 if self.done(p, 1) else 0.5):
                 self.set_output(p)
             if not port.empty:
-                self.do(play.TRANSMITTED, p)
+                self.do(drive.TRANSMITTED, p)
             if self.trait('flip'):
-                self.do(play.DEVICE_STATUS, p, port.line ^ self.chance(0.8))
+                self.do(drive.DEVICE_STATUS, p, port.line ^ self.chance(0.8))
 
     # Actions.
 
@@ -197,7 +197,7 @@ class Author:
             self.prepare(self.unit.pos)
         self.inspect()
         if self.unit.irq and self.chance(0.1):
-            self.do(play.DIAS)
+            self.do(drive.DIAS)
 
     def plain_turn(self):
         """A turn that serves a port with no other call before it."""
@@ -208,7 +208,7 @@ class Author:
         elif port.empty:
             self.set_output(p)
         else:
-            self.do(play.POKE_PORT, p, 5, 1)
+            self.do(drive.POKE_PORT, p, 5, 1)
         self.inspect()
 
     def printing(self, p):
@@ -217,7 +217,7 @@ class Author:
         self.write(self.block(p) + 1, 0o20000 + self.unit.port[p].line * 2048 + self.byte())
         self.write(self.block(p) + 5, pointer)
         self.write(self.block(p) + 7, (pointer + 2 + self.below(60)) % 65536)
-        self.do(play.POKE_PORT, p, 5, 1)
+        self.do(drive.POKE_PORT, p, 5, 1)
 
     def sweep(self):
         ports = self.unit.ports
@@ -229,14 +229,14 @@ class Author:
                 self.prepare(p)
         lent = self.mux.lent_places
         n = min(lent, self.one_of(0, 1, 2, 3, ports, 2 * ports, lent, self.below(200)))
-        self.do(play.SWEEP, n, self.look(self.below(4)))
+        self.do(drive.SWEEP, n, self.look(self.below(4)))
 
     def processor(self):
-        self.do(self.one_of(play.IOPLS, play.START, play.DOC, play.DIA, play.DIAS, play.TICK,
-                            play.TICK, play.DIAS))
+        self.do(self.one_of(drive.IOPLS, drive.START, drive.DOC, drive.DIA, drive.DIAS, drive.TICK,
+                            drive.TICK, drive.DIAS))
 
     def reset(self):
-        self.do(play.RESET)
+        self.do(drive.RESET)
         if self.chance(0.3):
             self.any_call()
         self.go()
@@ -245,9 +245,9 @@ class Author:
         if self.chance(0.6):
             for p in range(min(self.unit.ports, 16)):
                 self.write(self.block(p) + 1, 0o40000 + self.below(2) * 4096 + self.control())
-        self.do(play.DOC)
+        self.do(drive.DOC)
         if self.chance(0.5):
-            self.do(play.IOPLS)
+            self.do(drive.IOPLS)
 
     def host(self):
         u = self.unit
@@ -259,7 +259,7 @@ class Author:
 
     def lend_list(self):
         long = self.kind == 'quiet' and self.chance(0.3)
-        self.do(play.PLACES, 4096 + self.below(104) if long
+        self.do(drive.PLACES, 4096 + self.below(104) if long
                 else self.one_of(0, 1, 2, 3, 8, self.unit.ports, 64, 200), self.below(65536))
 
     def poke(self):
@@ -267,34 +267,34 @@ class Author:
         u = self.unit
         what = self.below(6)
         if what == 0:
-            self.do(play.POKE, 3, self.below(u.ports))
+            self.do(drive.POKE, 3, self.below(u.ports))
         elif what == 1:
-            self.do(play.POKE, 7, self.below(65536))
+            self.do(drive.POKE, 7, self.below(65536))
         elif what == 2:
-            self.do(play.POKE, self.one_of(5, 6), self.below(2))
+            self.do(drive.POKE, self.one_of(5, 6), self.below(2))
         elif what == 3:
             _, ports, base = self.sound_place(u.block)
-            self.do(play.POKE, 1, ports)
-            self.do(play.POKE, 2, base)
-            self.do(play.POKE, 3, self.below(ports))
+            self.do(drive.POKE, 1, ports)
+            self.do(drive.POKE, 2, base)
+            self.do(drive.POKE, 3, self.below(ports))
         else:
             p = self.one_of(self.below(mux2.ARRAY), u.pos, u.pos, u.pos)
             field = self.below(9)
-            self.do(play.POKE_PORT, p, field, self.below(256) if field in (1, 6) else self.below(2))
+            self.do(drive.POKE_PORT, p, field, self.below(256) if field in (1, 6) else self.below(2))
 
     def any_call(self):
         """One call of any kind, with any arguments."""
         op = 2 + self.below(13)
         port = self.one_of(0, self.below(128), self.unit.ports, MANY)
-        if op == play.ARRIVAL:
+        if op == drive.ARRIVAL:
             self.arrival(port)
-        elif op == play.TRANSMITTED:
+        elif op == drive.TRANSMITTED:
             self.do(op, port)
-        elif op == play.DEVICE_STATUS:
+        elif op == drive.DEVICE_STATUS:
             self.do(op, port, self.below(2))
-        elif op == play.INSPECT:
+        elif op == drive.INSPECT:
             self.inspect()
-        elif op == play.SWEEP:
+        elif op == drive.SWEEP:
             lent = self.mux.lent_places
             self.do(op, self.one_of(0, min(lent, 5), lent + 1, 4097, MANY), self.look())
         else:
@@ -305,9 +305,9 @@ class Author:
             self.any_call()
 
     def stopped(self):
-        self.do(play.DOB)
+        self.do(drive.DOB)
         self.some_calls()
-        self.do(play.DOC)
+        self.do(drive.DOC)
 
     def bad_record(self):
         u = self.unit
@@ -317,44 +317,44 @@ class Author:
             (2, self.one_of(u.base + 1, u.base + 4 * u.block, 32768, 32768 + u.base, HIGH, MANY)),
             (2, (u.base // area + 1) * area - 8 * u.block), (1, 128),
             (3, self.one_of(u.ports, u.ports + 1, 128, MANY)))
-        good = getattr(u, play.FIELDS[field])
-        self.do(play.POKE, field, value)
+        good = getattr(u, drive.FIELDS[field])
+        self.do(drive.POKE, field, value)
         words = self.one_of(32768, 32768, 32767)
-        self.do(play.WORDS, words)
+        self.do(drive.WORDS, words)
         if self.unsound():
             self.some_calls()
-        self.do(play.WORDS, 32768)
-        self.do(play.POKE, field, good)
+        self.do(drive.WORDS, 32768)
+        self.do(drive.POKE, field, good)
         if self.unsound():
             self.good_setup()
 
     def bad_memory(self):
-        self.do(play.WORDS, self.one_of(0, 1, 32767, 32769, 40000))
+        self.do(drive.WORDS, self.one_of(0, 1, 32767, 32769, 40000))
         lent = self.mux.lent_places
         self.inspect()
-        self.do(play.SWEEP, self.one_of(0, lent, lent + 1, 4097), self.look())
+        self.do(drive.SWEEP, self.one_of(0, lent, lent + 1, 4097), self.look())
         if self.chance(0.3):
             self.any_call()
-        self.do(play.WORDS, 32768)
+        self.do(drive.WORDS, 32768)
 
     def bad_port(self):
         port = self.unit.ports + self.one_of(0, 0, 1, 128 - self.unit.ports, 256)
         port = self.one_of(port, port, MANY)
-        op = self.one_of(play.ARRIVAL, play.TRANSMITTED, play.DEVICE_STATUS)
-        if op == play.ARRIVAL:
+        op = self.one_of(drive.ARRIVAL, drive.TRANSMITTED, drive.DEVICE_STATUS)
+        if op == drive.ARRIVAL:
             self.arrival(port)
-        elif op == play.TRANSMITTED:
+        elif op == drive.TRANSMITTED:
             self.do(op, port)
         else:
             self.do(op, port, self.below(2))
 
     def bad_sweep(self):
         if self.chance(0.2):
-            self.do(play.PLACES, 4097, self.below(65536))
+            self.do(drive.PLACES, 4097, self.below(65536))
         lent = self.mux.lent_places
-        self.do(play.SWEEP, self.one_of(4097, MANY, lent + 1, lent + 1), self.look())
+        self.do(drive.SWEEP, self.one_of(4097, MANY, lent + 1, lent + 1), self.look())
         if lent == 4097:
-            self.do(play.PLACES, self.one_of(4096, 200, 3), self.below(65536))
+            self.do(drive.PLACES, self.one_of(4096, 200, 3), self.below(65536))
 
     def bad_setup(self):
         b = self.one_of(8, 16, 32, 32, self.one_of(0, 7, 24, 64, MANY))
@@ -362,7 +362,7 @@ class Author:
         base = self.below(2 + 32768 // (8 * max(b % 64, 1))) * 8 * (b % 64)
         base = self.one_of(base, base, base, min(base + self.one_of(1, b // 2, 4 * b), MANY),
                            self.one_of(HIGH, MANY))
-        self.do(play.SETUP, b, ports, base, self.below(2))
+        self.do(drive.SETUP, b, ports, base, self.below(2))
         if self.unsound():
             self.some_calls()
             self.good_setup()
@@ -384,26 +384,26 @@ class Author:
         return b, ports, base
 
     def good_setup(self):
-        self.do(play.SETUP, *self.sound_place(self.one_of(8, 16, 32)), self.below(2))
+        self.do(drive.SETUP, *self.sound_place(self.one_of(8, 16, 32)), self.below(2))
         for p in range(self.unit.ports):
             if self.chance(0.8):
-                self.do(play.POKE_PORT, p, 6, self.control())
+                self.do(drive.POKE_PORT, p, 6, self.control())
         self.go()
 
     def session(self, calls):
         if self.trait('filled'):
-            self.do(play.FILL, 1 + self.below(2000000000))
+            self.do(drive.FILL, 1 + self.below(2000000000))
         self.good_setup()
-        self.do(play.PLACES, 200, self.below(65536))
+        self.do(drive.PLACES, 200, self.below(65536))
         while self.calls < calls:
             if not self.unit.runs:
-                self.do(play.DOC)
+                self.do(drive.DOC)
             elif self.serving < 0.53 * self.calls:
                 self.plain_turn()
             else:
                 getattr(self, self.weighted(self.actions))()
         reached = self.mux.reached
-        self.do(play.END)
+        self.do(drive.END)
         return reached
 
 

@@ -1,4 +1,4 @@
-"""Writes the small session that every check of the program `play` runs: crates/play/stdin and crates/play/stdout.
+"""Writes the small session that every check of the program `compared` runs: crates/compared/stdin and crates/compared/stdout.
 
     small.py FOLDER
 
@@ -8,7 +8,7 @@ The first orders of four sessions of the fixed set, each with a whole digest and
 import pathlib
 import sys
 
-import play
+import drive
 import sessions
 
 NUMBERS, ORDERS = (0, 5, 8, 9), 260
@@ -19,10 +19,10 @@ def main():
     text, lines = [], []
     for number in NUMBERS:
         author, _ = sessions.write_session(sessions.SEED, number)
-        player = play.Player()
-        for order in author.orders[:ORDERS] + [(play.DIGEST,), (play.END,)]:
+        driver = drive.Driver()
+        for order in author.orders[:ORDERS] + [(drive.DIGEST,), (drive.END,)]:
             text.append(' '.join(map(str, order)))
-            line = player.play(order)
+            line = driver.drive(order)
             if line is not None:
                 lines.append(line)
     (folder / 'stdin').write_text('\n'.join(text) + '\n')

@@ -1,7 +1,7 @@
 """Checks the second program by document 01's settled examples and the manual's own values.
 
 It also checks that the digests are those of FORMAT.md, that a written session
-can be read and played again, and that compare.py finds a changed line. Exit
+can be read and driven again, and that compare.py finds a changed line. Exit
 status 0 only where every check passes.
 """
 
@@ -9,8 +9,8 @@ import sys
 import traceback
 
 import compare
+import drive
 import mux2
-import play
 import sessions
 from mux2 import IDLE, INPUT, NOTHING, OUTPUT, Answer, Mux2
 
@@ -280,25 +280,25 @@ def test_section_7_special_output():
 
 def test_digests_are_those_of_the_format():
     author, _ = sessions.write_session(7, 0)
-    player = play.Player()
+    driver = drive.Driver()
     for order in author.orders[:-1]:
-        player.play(order)
-        if order[0] == play.DIGEST:
-            mux = player.mux
+        driver.drive(order)
+        if order[0] == drive.DIGEST:
+            mux = driver.mux
             u, memory = mux.record, mux.memory
-            numbers = [getattr(u, field) for field in play.FIELDS]
+            numbers = [getattr(u, field) for field in drive.FIELDS]
             for port in u.port:
                 numbers += [*port[:6], mux2.BYTE_OF[port.control], *port[7:]]
-            assert len(numbers) == 1160 and player.record() == play.digest(numbers)
-            assert memory.digest() == play.digest(map(memory.word, range(mux2.ROOM)))
+            assert len(numbers) == 1160 and driver.record() == drive.digest(numbers)
+            assert memory.digest() == drive.digest(map(memory.word, range(mux2.ROOM)))
 
 
 def test_filled_memory():
-    player, x = play.Player(), 77
-    player.play((play.FILL, x))
+    driver, x = drive.Driver(), 77
+    driver.drive((drive.FILL, x))
     for address in range(mux2.ROOM):
         x = x * 48271 % 2147483647
-        assert player.mux.memory.word(address) == x // 16 % 65536
+        assert driver.mux.memory.word(address) == x // 16 % 65536
 
 
 def test_orders_keep_the_format():
@@ -310,17 +310,17 @@ def test_orders_keep_the_format():
     for number_of_session in range(len(sessions.KINDS)):
         for op, *rest in sessions.write_session(7, number_of_session)[0].orders:
             limits = most.get(op, ())
-            assert op in play.NAMES and len(rest) == len(limits)
+            assert op in drive.NAMES and len(rest) == len(limits)
             assert all(type(x) is int and 0 <= x <= limit for x, limit in zip(rest, limits))
-            assert op != play.POKE or rest[1] <= field[rest[0]]
-            assert op != play.POKE_PORT or rest[2] <= port_field[rest[1]]
+            assert op != drive.POKE or rest[1] <= field[rest[0]]
+            assert op != drive.POKE_PORT or rest[2] <= port_field[rest[1]]
 
 
-def test_a_text_can_be_played_again():
+def test_a_text_can_be_driven_again():
     author, _ = sessions.write_session(7, 1)
-    player = play.Player()
+    driver = drive.Driver()
     text = [' '.join(map(str, order)) for order in author.orders]
-    again = [player.play([int(word) for word in line.split()]) for line in text]
+    again = [driver.drive([int(word) for word in line.split()]) for line in text]
     assert [line for line in again if line is not None] == author.printed
     assert compare.first_difference(text, author.printed, author.printed) is None
     for wrong in (author.printed[:-1], author.printed + ['0'],

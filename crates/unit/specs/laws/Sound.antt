@@ -85,8 +85,7 @@ good-end b n a = (λ e. ltb-false 32768 _ e, λ h. le-ltb 32768 _ h)
 pub size-fits : (s : Setting) → (firstOf (sizeRows s) ≡ 0) ↔ SizeFits s
 unfolding sizeRows
 size-fits s =
-    let z = first-zero (sizeRows s) refl in
-    (
+    let z = first-zero (sizeRows s) refl in (
       λ e. let p = z .0 e in
           let n = good-ports _ .0 (p .1 .0) in
           record { block = good-block _ .0 (p .0); some-port = n .0; few-ports = n .1 },
@@ -96,8 +95,7 @@ size-fits s =
 pub base-fits : (s : Setting) → (firstOf (baseRows s) ≡ 0) ↔ BaseFits s
 unfolding baseRows
 base-fits s =
-    let z = first-zero (baseRows s) refl in
-    (
+    let z = first-zero (baseRows s) refl in (
       λ e. let a = good-base _ _ .0 (z .0 e .0) in record { aligned = a .0; low = a .1 },
       λ h. z .1 (good-base _ _ .1 (h .aligned, h .low), tt),
     )
@@ -105,8 +103,7 @@ base-fits s =
 pub area-fits : (s : Setting) → (firstOf (areaRows s) ≡ 0) ↔ AreaFits s
 unfolding areaRows
 area-fits s =
-    let z = first-zero (areaRows s) refl in
-    (
+    let z = first-zero (areaRows s) refl in (
       λ e. let p = z .0 e in record { one = good-area _ _ _ .0 (p .0); inside = good-end _ _ _ .0 (p .1 .0) },
       λ h. z .1 (good-area _ _ _ .1 (h .one), (good-end _ _ _ .1 (h .inside), tt)),
     )
@@ -116,8 +113,7 @@ pub fits-iff : (s : Setting) → (firstOf (settingRows s) ≡ 0) ↔ Fits s
 unfolding settingRows sizeRows baseRows
 fits-iff s =
     let z = first-both (sizeRows s) (baseRows s ++ areaRows s) refl in
-    let y = first-both (baseRows s) (areaRows s) refl in
-    (
+    let y = first-both (baseRows s) (areaRows s) refl in (
       λ e. let p = z .0 e in
           let q = y .0 (p .1) in
           record { size = size-fits s .0 (p .0); base = base-fits s .0 (q .0); area = area-fits s .0 (q .1) },

@@ -1,0 +1,15 @@
+-- `compared::of_lent` is safe: no more places are lent than there are.
+use native.Mathlib.Omega.{arith}
+use lib.ListN.{length-take}
+use borrow.Author.Needs.{needs}
+use Rattle.compared.proofs.of_lent.Statement.{statement}
+use Rattle.compared.proofs.of_lent.Tie as tie
+
+slice-aggregate-of-words : tie.Need-slice-aggregate-of-words
+slice-aggregate-of-words c = simp length-take (omega arith)
+
+pub of-lent-spec : {M : Type 1} → statement M
+of-lent-spec =
+    tie.close
+    (tie.spec
+    (λ c κs. search needs) slice-aggregate-of-words (λ c κs. search needs) (λ c. search needs))

@@ -1,0 +1,19 @@
+-- `driver::digest::of_window` meets its contract: its calls, one after the other.
+use borrow.Author.Needs.{needs}
+use Rattle.driver.specs.Digest.{windowDigest}
+use Rattle.driver.proofs.digest.of_window.Statement.{statement}
+use Rattle.driver.proofs.digest.of_window.Tie as tie
+
+returns : tie.Need-returns
+unfolding windowDigest
+returns c = record { is = cc; below = c .of-word10 .ensures .below }
+
+pub of-window-spec : {M : Type 1} → statement M
+of-window-spec =
+    tie.close
+    (tie.spec
+    (λ c κs. search needs) (λ c. search needs) (λ c κs. search needs) (λ c. search needs) (λ c κs. search needs)
+    (λ c. search needs) (λ c κs. search needs) (λ c. search needs) (λ c κs. search needs) (λ c. search needs)
+    (λ c κs. search needs) (λ c. search needs) (λ c κs. search needs) (λ c. search needs) (λ c κs. search needs)
+    (λ c. search needs) (λ c κs. search needs) (λ c. search needs) (λ c κs. search needs) (λ c. search needs)
+    (λ c κs. search needs) (λ c. search needs) (λ c κs. search needs) returns)

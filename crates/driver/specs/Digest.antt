@@ -1,0 +1,45 @@
+-- The digests of tests/second/FORMAT.md.
+--   taken                              a digest with one more number
+--   digest                             of words or places, in their order
+--   portTaken, scalars, recordDigest   of the record
+--   windowDigest                       of the window on a control block
+-- Not here: the line that is read, in Text; folds taken step by step, in laws/Folds.
+-- Assumes nothing.
+use mathlib.Core.List.{List, [], _∷_, foldl}
+use Prim.Native.Nat.{ℕ, _+_, _*_, _/_, _%_}
+use lib.ListN.{getD}
+use Rattle.ground.specs.Choose.{bit}
+use Rattle.unit.specs.declared.mux.Port.{Port}
+use Rattle.unit.specs.declared.mux.Mux.{Mux}
+
+-- a digest with one more number
+unfoldable pub taken : ℕ → ℕ → ℕ
+taken h x = (h * 65599 + x) % 2147483647
+
+-- the digest of words or places, in the order of their addresses
+abbrev pub digest : List ℕ → ℕ
+digest xs = foldl taken 1 xs
+
+-- a digest with the nine numbers of a port, in the order of opcode 25
+unfoldable pub portTaken : ℕ → Port → ℕ
+portTaken h q =
+    foldl taken h
+    (bit (q .held) ∷ q .ch .byte ∷ bit (q .ch .parity) ∷ bit (q .ch .brk) ∷ bit (q .ch .overload) ∷ bit (q .empty) ∷
+    q .control ∷ bit (q .devcontrol) ∷ bit (q .devstatus) ∷ [])
+
+-- the eight numbers of the record before its ports, in the order of opcode 24
+abbrev pub scalars : Mux → List ℕ
+scalars u =
+    u .setting .block ∷ u .setting .ports ∷ u .setting .base ∷ u .pos ∷ bit (u .runs) ∷ bit (u .clock) ∷ bit (u .irq .flag) ∷ u .irq .status ∷ []
+
+-- the digest of the record: 1160 numbers
+unfoldable pub recordDigest : Mux → ℕ
+recordDigest u = foldl portTaken (digest (scalars u)) (u .port)
+
+-- the digest of the eight words from look on and of the words that IBP and OBP point into
+unfoldable pub windowDigest : List ℕ → ℕ → ℕ
+windowDigest m look =
+    let w : ℕ → ℕ = λ k. getD m k 0 in
+    digest
+    (w look ∷ w (look + 1) ∷ w (look + 2) ∷ w (look + 3) ∷ w (look + 4) ∷ w (look + 5) ∷ w (look + 6) ∷ w (look + 7) ∷
+    w (w (look + 4) / 2) ∷ w (w (look + 5) / 2) ∷ [])

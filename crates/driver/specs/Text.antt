@@ -1,0 +1,35 @@
+-- The line of a session's text, read byte by byte (tests/second/FORMAT.md, Lines).
+--   blank                       a line of which nothing is read yet
+--   isDigit, extended, ended    a digit, the line with one more, the line with its number ended
+--   typed                       the line with one more byte
+-- Not here: which orders there are, in FORMAT.md; the line that is printed, which is held by the comparison alone.
+-- Assumes nothing.
+use mathlib.Core.Bool.{Bool, false}
+use Prim.Native.Nat.{ℕ, _+_, _*_, _%_}
+use lib.Dec.{ltb}
+use lib.ListN.{set, replicate}
+use Rattle.ground.specs.Choose.{pick}
+use Rattle.driver.specs.declared.read.Line.{Line}
+
+-- a line of which nothing is read yet
+abbrev pub blank : Line
+blank = record { n = replicate 5 0; count = 0; number = 0 }
+
+-- a digit: 48 to 57
+unfoldable pub isDigit : ℕ → Bool
+isDigit b = pick (ltb 57 b) false (ltb 47 b)
+
+-- the line with one more digit of its number
+abbrev pub extended : Line → ℕ → Line
+extended l b = record { n = l .n; count = l .count; number = (l .number * 10 + b % 16) % 4294967296 }
+
+-- the line with its number ended
+unfoldable pub ended : Line → Line
+ended l =
+    pick (ltb (l .count) 5)
+    (record { n = set (l .n) (l .count) (l .number); count = l .count + 1; number = 0 })
+    (record { n = l .n; count = l .count; number = 0 })
+
+-- the line with one more byte: a digit extends the number, any other byte ends it
+unfoldable pub typed : Line → ℕ → Line
+typed l b = pick (isDigit b) (extended l b) (ended l)

@@ -1,0 +1,175 @@
+"""Drives the text of a session (FORMAT.md) on a second program and gives the lines to print.
+
+Every digest is a sum of numbers times fixed weights, so it is kept up to date
+at each change instead of being computed anew.
+"""
+
+from functools import lru_cache
+
+import mux2
+
+MODULUS, FACTOR = 2147483647, 65599
+SETUP, ARRIVAL, TRANSMITTED, DEVICE_STATUS = 1, 2, 3, 4
+RESET, IOPLS, START, DOC, DOB, DIA, DIAS, TICK = range(5, 13)
+INSPECT, SWEEP = 13, 14
+WRITE, FILL, WORDS, PLACES, POKE, POKE_PORT = range(20, 26)
+DIGEST, END = 30, 31
+CALLS = range(SETUP, SWEEP + 1)
+NAMES = {1: 'setup', 2: 'arrival', 3: 'transmitted', 4: 'device_status', 5: 'reset', 6: 'iopls',
+         7: 'start', 8: 'doc', 9: 'dob', 10: 'dia', 11: 'dias', 12: 'tick', 13: 'inspect',
+         14: 'sweep', 20: 'host write', 21: 'fill memory', 22: 'memory lent', 23: 'list lent',
+         24: 'poke', 25: 'poke port', 30: 'whole digest', 31: 'end of session'}
+FIELDS = ('block', 'ports', 'base', 'pos', 'runs', 'clock', 'irq', 'status')
+PORT_FIELDS = mux2.Port._fields
+
+
+def weights(count):
+    """The weight of each of `count` numbers in their digest, and what h = 1 becomes."""
+    powers = [1]
+    for _ in range(count):
+        powers.append(powers[-1] * FACTOR % MODULUS)
+    return powers[count - 1::-1] if count else [], powers[count]
+
+
+MEMORY_WEIGHTS, MEMORY_START = weights(mux2.ROOM)
+RECORD_WEIGHTS, RECORD_START = weights(len(FIELDS) + len(PORT_FIELDS) * mux2.ARRAY)
+SCALAR_WEIGHTS = RECORD_WEIGHTS[:len(FIELDS)]
+PORT_WEIGHTS = [RECORD_WEIGHTS[k:k + len(PORT_FIELDS)]
+                for k in range(len(FIELDS), len(RECORD_WEIGHTS), len(PORT_FIELDS))]
+
+
+def digest(numbers):
+    h = 1
+    for x in numbers:
+        h = (h * FACTOR + x) % MODULUS
+    return h
+
+
+class WatchedMemory(mux2.Memory):
+    """Memory that keeps the digest of all its words."""
+
+    def __init__(self):
+        super().__init__()
+        self.sum = MEMORY_START
+
+    def put(self, address, word):
+        self.sum += (word - self.word(address)) * MEMORY_WEIGHTS[address]
+        super().put(address, word)
+
+    def put_byte(self, pointer, byte):
+        change = (byte - self.halves[pointer]) * (1 if pointer % 2 else 256)
+        self.sum += change * MEMORY_WEIGHTS[pointer // 2]
+        super().put_byte(pointer, byte)
+
+    def digest(self):
+        self.sum %= MODULUS
+        return self.sum
+
+
+class RecordDigest:
+    """The digest of a record; only ports that changed are looked at again."""
+
+    def __init__(self):
+        self.seen = [None] * mux2.ARRAY
+        self.parts = [0] * mux2.ARRAY
+
+    def of(self, record):
+        if record.port != self.seen:
+            for p, port in enumerate(record.port):
+                if port is not self.seen[p]:
+                    self.parts[p] = sum(w * x for w, x in zip(PORT_WEIGHTS[p], numbers_of(port)))
+            self.seen = list(record.port)
+            self.ports = sum(self.parts)
+        scalars = (record.block, record.ports, record.base, record.pos,
+                   record.runs, record.clock, record.irq, record.status)
+        return (RECORD_START + self.ports
+                + sum(w * x for w, x in zip(SCALAR_WEIGHTS, scalars))) % MODULUS
+
+    ports = 0
+
+
+def numbers_of(port):
+    return port[:6] + (mux2.BYTE_OF[port.control],) + port[7:]
+
+
+class Driver:
+    """A second program and the digests of what it holds."""
+
+    def __init__(self, program=mux2.Mux2):
+        self.program = program
+        self.new_session()
+
+    def new_session(self):
+        self.mux = self.program(WatchedMemory())
+        self.record_digest = RecordDigest()
+
+    def drive(self, order):
+        """Carries one order out; the line to print, or None."""
+        op, rest = order[0], order[1:]
+        mux, memory = self.mux, self.mux.memory
+        if op == INSPECT:
+            code, answer = mux.inspect()
+            return self.line(op, code, *answer, self.record(), self.window(rest[0]))
+        if op == SWEEP:
+            code, made, used = mux.sweep(rest[0])
+            return self.line(op, code, made, used, self.record(), self.window(rest[1]),
+                             digest(mux.places[:mux.lent_places]))
+        if op == SETUP:
+            code, made = mux.setup(*rest[:3])
+            if code == 0 or rest[3]:
+                mux.record = made
+            return self.line(op, code, RecordDigest().of(made), self.record())
+        if op in (DIA, DIAS):
+            code, value = getattr(mux, NAMES[op])()
+            return self.line(op, code, value, self.record())
+        if op in CALLS:
+            return self.line(op, getattr(mux, NAMES[op])(*rest), self.record())
+        if op == WRITE:
+            mux.host_write(*rest)
+        elif op == FILL:
+            self.fill(rest[0])
+        elif op == WORDS:
+            memory.lent = rest[0]
+        elif op == PLACES:
+            mux.lent_places = rest[0]
+            mux.places = [rest[1]] * mux2.PLACES
+        elif op == POKE:
+            setattr(mux.record, FIELDS[rest[0]], rest[1])
+        elif op == POKE_PORT:
+            p, field, value = rest
+            name = PORT_FIELDS[field]
+            mux.change(p, **{name: mux2.BYTE_BITS[value] if name == 'control' else value})
+        elif op in (DIGEST, END):
+            line = self.line(op, memory.digest(), digest(mux.places))
+            if op == END:
+                self.new_session()
+            return line
+        return None
+
+    @staticmethod
+    def line(*numbers):
+        return ' '.join(map(str, numbers))
+
+    def record(self):
+        return self.record_digest.of(self.mux.record)
+
+    def window(self, look):
+        word = self.mux.memory.word
+        words = [word(look + k) for k in range(8)]
+        return digest(words + [word(words[4] // 2), word(words[5] // 2)])
+
+    def fill(self, x):
+        halves, self.mux.memory.sum = filling(x)
+        self.mux.memory.halves[:] = halves
+
+
+@lru_cache(maxsize=None)
+def filling(x):
+    """The bytes that order 21 puts into memory, and their digest."""
+    halves, total = bytearray(), MEMORY_START
+    for weight in MEMORY_WEIGHTS:
+        x = x * 48271 % MODULUS
+        word = x // 16 % 65536
+        halves += bytes((word // 256, word % 256))
+        total += word * weight
+    return halves, total % MODULUS
