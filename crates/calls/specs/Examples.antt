@@ -15,6 +15,7 @@ use Rattle.words.specs.Special.{isSpecial}
 use Rattle.words.specs.Length.{lengthOf}
 use Rattle.words.specs.Speed.{speedOf}
 use Rattle.interrupt.specs.declared.Service.the-variants.{Input, Output}
+use Rattle.unit.specs.declared.mux.Setting.{Setting}
 use Rattle.unit.specs.declared.reply.Turn.{Turn}
 use Rattle.unit.specs.declared.reply.Turn.the-variants.{Served}
 use Rattle.unit.specs.Record.{noMux, portAt}
@@ -29,10 +30,14 @@ use Rattle.calls.specs.Events.{Single, setsUp, does, result, after, runS
 abbrev pub clear : List ℕ
 clear = replicate 32768 0
 
+-- the setting of block size b, P ports and the base
+abbrev pub settingOf : ℕ → ℕ → ℕ → Setting
+settingOf b n base = record { block = b; ports = n; base = base }
+
 -- a unit set up with block size b, P ports and the base, started, on the memory m, after some more single things
 abbrev pub unitAfter : ℕ → ℕ → ℕ → List ℕ → List Single → World
 unitAfter b n base m xs =
-    runSingles (world noMux m) (setsUp (record { block = b; ports = n; base = base }) ∷ does (Processor Doc) ∷ xs)
+    runSingles (world noMux m) (setsUp (settingOf b n base) ∷ does (Processor Doc) ∷ xs)
 
 -- an inspection
 abbrev pub look : Single
@@ -49,7 +54,11 @@ turnsOf w (x ∷ xs) = result w x .reply .answer .turn ∷ turnsOf (after w x) x
 
 -- the number that setup gives
 abbrev pub codeOf : ℕ → ℕ → ℕ → ℕ
-codeOf b n base = setup (record { block = b; ports = n; base = base }) .reply .code
+codeOf b n base = setup (settingOf b n base) .reply .code
+
+-- the status word, as DIA returns it
+abbrev pub statusOf : World → ℕ
+statusOf w = result w (does (Processor Dia)) .reply .value
 
 -- ---- document 01
 
@@ -96,10 +105,10 @@ pub record Starred : Type 0 where
   -- IBP 65535: the byte goes to the left half of word 0
   pub wrapped : getD (unitAfter 8 1 64 (filling 65535 2003) (typed 0 1 ∷ look ∷ []) .memory) 0 0 ≡ 0x0100
   -- base 15360, b 32: input done on port 0 gives status 11264; then output done on port 1 gives 31776
-  pub status-in : runSingles both (look ∷ []) .mux .irq .status ≡ 11264
-  pub status-out : runSingles both (look ∷ look ∷ []) .mux .irq .status ≡ 31776
+  pub status-in : statusOf (runSingles both (look ∷ [])) ≡ 11264
+  pub status-out : statusOf (runSingles both (look ∷ look ∷ [])) ≡ 31776
   -- a tick alone gives 32768
-  pub status-tick : result (unitAfter 32 2 15360 clear (does (Processor Iopls) ∷ does (Processor Tick) ∷ [])) (does (Processor Dia)) .reply .value ≡ 32768
+  pub status-tick : statusOf (unitAfter 32 2 15360 clear (does (Processor Iopls) ∷ does (Processor Tick) ∷ [])) ≡ 32768
   -- P 4, position 1, a character at port 0: served by the fourth inspection; position 0: by the first
   pub fourth : turnsOf waiting (look ∷ look ∷ look ∷ look ∷ []) ≡ Served Output ∷ Served Output ∷ Served Output ∷ Served Input ∷ []
   pub first : turnsOf (unitAfter 8 4 64 clear (typed 0 7 ∷ [])) (look ∷ []) ≡ Served Input ∷ []

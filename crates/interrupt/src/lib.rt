@@ -1,4 +1,4 @@
-// The interrupt side of the unit: the flag and the status word, and all that changes them. No other crate reads or writes inside it.
+// The interrupt side of the unit: the flag and the status word, and all that changes them. No crate of the multiplexer reads or writes inside it; the digests and pokes of driver do.
 use words::codes::INPUT_DONE;
 use words::codes::MORE_THAN_ONE;
 use words::codes::OUTPUT_DONE;
@@ -91,10 +91,10 @@ pub fn raise(i: Irq, s: Service, address: u16) -> Irq
     requires { ⌜ address < 128 ⌝ }
     ensures { λ r. ⌜ r ≡ raised s address i ⌝ }
 {
-    Irq {
-        flag: true,
-        status: status_after(i.status, s, address),
-    }
+    let mut v = i;
+    v.flag = true;
+    v.status = status_after(i.status, s, address);
+    v
 }
 
 // START.
@@ -108,10 +108,10 @@ pub fn start(i: Irq) -> Irq
 pub fn tick(i: Irq) -> Irq
     ensures { λ r. ⌜ r ≡ ticked i ⌝ }
 {
-    Irq {
-        flag: true,
-        status: put(i.status, REAL_TIME, 1),
-    }
+    let mut v = i;
+    v.flag = true;
+    v.status = put(i.status, REAL_TIME, 1);
+    v
 }
 
 // What DIA returns.

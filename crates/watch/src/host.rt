@@ -69,7 +69,7 @@ fn control_word() -> u16
     ensures { λ r. ⌜ r ≡ put CHARACTER 0o67 (put DEVICE-CONTROL 1 (put OUTMO outControl 0)) ⌝ }
 {
     let mode = put(0, OUTMO, OUT_CONTROL);
-    put(put(mode, DEVICE_CONTROL, 1), CHARACTER, 55)
+    put(put(mode, DEVICE_CONTROL, 1), CHARACTER, 0o67)
 }
 
 // Each port's length and speed, by port control.

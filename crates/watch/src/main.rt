@@ -162,7 +162,7 @@ fn first_half(u: Mux, mem: &mut [u16]) -> Mux
     requires { ⌜ length (now mem) ≡ 32768 ⌝ }
 {
     let v = typed(u, mem, 1, b'x');
-    keyed_three(v, mem, b'p', b'u', 124)
+    keyed_three(v, mem, b'p', b'u', 0o174)
 }
 
 // The host has seen the special, and asks for input again.

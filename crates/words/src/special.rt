@@ -7,8 +7,8 @@ pub fn is_special(c: u8) -> bool
     ensures { λ r. ⌜ r ≡ isSpecial c ⌝ }
 {
     let low = c % 128;
-    if low < 32 {
+    if low < 0o40 {
         return true;
     }
-    123 < low
+    0o173 < low
 }

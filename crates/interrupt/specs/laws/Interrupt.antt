@@ -16,20 +16,20 @@ unfolding unsound
 fresh-sound = refl
 
 pub cleared-sound : (i : Irq) → unsound i ≡ false → unsound (cleared i) ≡ false
-unfolding unsound
-cleared-sound i e = refl
+unfolding unsound cleared
+cleared-sound i e = fresh-sound
 
 pub raised-sound : (s : Service) (address : ℕ) (i : Irq) → unsound i ≡ false → unsound (raised s address i) ≡ false
-unfolding unsound
-raised-sound s address i e = refl
+unfolding unsound raised
+raised-sound s address i e = e
 
 pub started-sound : (i : Irq) → unsound i ≡ false → unsound (started i) ≡ false
-unfolding unsound
-started-sound i e = refl
+unfolding unsound started
+started-sound i e = fresh-sound
 
 pub ticked-sound : (i : Irq) → unsound i ≡ false → unsound (ticked i) ≡ false
-unfolding unsound
-ticked-sound i e = refl
+unfolding unsound ticked
+ticked-sound i e = e
 
 -- START clears what DIA shows
 pub started-shows : (i : Irq) → shown (started i) ≡ 0
