@@ -1,7 +1,7 @@
 #!/usr/bin/env python3
 """Are the pages true where a program can tell? Run from anywhere; its last line is `N passed, M failed`.
 
-  pages.py            checks: every name that docs/CLAIMS.md cites stands in the code, the definitions or the tests; every edit that it cites is
+  pages.py            checks: every name that a page cites stands in the code, the definitions or the tests; every edit that docs/CLAIMS.md cites is
                       there, and every edit that is there is cited; every decision that a page cites has its entry; README.md gives each file of
                       definitions with its length, and leaves none out
   pages.py --write    writes the lengths into README.md
@@ -14,6 +14,7 @@ ROOT = pathlib.Path(__file__).resolve().parent.parent
 ENDINGS = {'.rt', '.antt', '.py', '.sh'}
 # Crates whose definitions speak of the programs and not of the multiplexer.
 PROGRAMS = {'driver', 'compared', 'watch'}
+PAGES = ['README.md', 'docs/CLAIMS.md', 'docs/DECISIONS.md', 'docs/CHANGING.md', 'docs/CARETAKER.md']
 
 
 def read(path):
@@ -28,14 +29,14 @@ def sources():
 
 
 def names_stand():
-    """Names in backticks that stand nowhere."""
+    """Names in backticks that stand nowhere: a name is one word, or a path of such words. The notes of landings may name what is gone."""
     text = sources()
+    words = set(re.findall(r'[\w-]+', text)) | {path.name for path in (ROOT / 'crates').iterdir()}
     lost = []
-    for name in sorted(set(re.findall(r'`([^`]+)`', read(ROOT / 'docs/CLAIMS.md')))):
-        last = name.split('::')[-1]
-        whole = re.compile(r'(?<![\w·-])' + re.escape(last) + r'(?![\w·-])')
-        if not (ROOT / name).exists() and not whole.search(text):
-            lost.append(f'docs/CLAIMS.md cites {name}, which stands nowhere')
+    for page in PAGES:
+        for name in sorted(set(re.findall(r'`((?:\w+::)*[A-Za-z][\w-]*)`', read(ROOT / page)))):
+            if name.split('::')[-1] not in words and not (ROOT / name).exists():
+                lost.append(f'{page} cites {name}, which stands nowhere')
     return lost
 
 
