@@ -1,5 +1,5 @@
 -- Laws of one inspection (document 01, of that name). The services are not opened.
---   runs-scans .. kind           which inspection is a turn: a sound running unit with 32,768 words always takes it
+--   runs-scans .. kind          which inspection is a turn: a sound running unit with 32,768 words always takes it
 --   scanned-input .. -idle      a held character means input; else an empty transmitter means output; else nothing is done
 --   served-says, served-names   what a turn that served answers
 --   Does, turn-does             what every turn of a port does, over what it reads

@@ -2,9 +2,9 @@
 --   look                              the inspection that comes next
 --   sweep-end, -stopped, -raised, -more   how a sweep goes on
 --   Looks                             so many inspections one after the other, and whether the last one raised an interrupt
---   Sweeping, sweeps                    a sweep is the composition of the inspections it counts: n, or fewer only because the last one raised
+--   Sweeping, sweeps                  a sweep is the composition of the inspections it counts: n, or fewer only because the last one raised
 --   Listed, listed                    what the sweep leaves in the list
---   sweep-refused, sweep-accepted         the call
+--   sweep-refused, sweep-accepted     the call
 -- Assumes nothing.
 use mathlib.Core.Path.{_≡_, refl, sym, _∙_, ap}
 use mathlib.Core.Bool.{Bool, true, false, true≢false}
