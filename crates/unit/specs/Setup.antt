@@ -1,4 +1,5 @@
 -- Setup (document 01, the unit and the host's memory, and the table of refusals).
+-- Not here: which settings are refused, in Refusals; what a fresh unit is, in Record.
 -- Assumes nothing.
 use Rattle.unit.specs.declared.mux.Setting.{Setting}
 use Rattle.unit.specs.declared.reply.Replied.{Replied}

@@ -3,6 +3,7 @@
 --   SizeFits, BaseFits, AreaFits, Fits   a setting that setup takes, by the parts of its table
 --   Sound           a record that row 6 does not refuse
 --   AllPorts        a record with its 128 ports
+-- Not here: the table of refusals, in Refusals.
 -- Assumes nothing.
 use mathlib.Core.Path.{_≡_}
 use mathlib.Core.Bool.{false}

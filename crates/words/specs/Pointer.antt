@@ -1,4 +1,5 @@
 -- Byte pointers, for input and output alike (document 01, Input 6 and Output 01).
+-- Not here: the byte at a pointer, in Byte.
 -- Assumes nothing.
 use mathlib.Core.Bool.{Bool}
 use Prim.Native.Nat.{ℕ, _+_, _%_}

@@ -1,4 +1,5 @@
 -- Special and ordinary codes (document 01, Input 5 and Output 01; 001, 4.1 bit 3 and 4.2 bit 3).
+-- Not here: what is done with a special code, in input and output.
 -- Assumes nothing.
 use mathlib.Core.Bool.{Bool, _||_}
 use Prim.Native.Nat.{ℕ, _%_}

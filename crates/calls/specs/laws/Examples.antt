@@ -1,6 +1,7 @@
 -- The worked examples hold: each is computed.
 --   everything        every definition that a step of the unit computes with, named once
 --   starred, manual   the examples of document 01, and those of the 1974 manual
+-- Not here: what the examples are, in specs/Examples.
 -- Assumes nothing.
 use mathlib.Core.Path.{refl}
 use Rattle.ground.specs.Choose.{pick, bit, asked, firstOf}

@@ -2,6 +2,7 @@
 -- The contract of each call fixes the reply, the record, the memory and the list by one equation with its definition, so two outcomes
 -- that meet it meet each other. There is no exception.
 --   OneOutcome, one-outcome   of each call by value, and of the step
+-- Not here: the same through the door, in door, laws/Door.
 -- Assumes nothing.
 use mathlib.Core.Path.{_≡_, sym, _∙_, ap}
 use mathlib.Core.List.{List}

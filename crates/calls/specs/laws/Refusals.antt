@@ -2,6 +2,7 @@
 --   Refuses            an outcome that has the number k, and where k is a refusal is the world and the list as they were
 --   performed-refuses  of one thing asked of the unit that stands
 --   step-refuses       of every call: a refused setup too keeps the record that stands
+-- Not here: which number it is, in unit, laws/Refusals; the same through the door, in door, laws/Door.
 -- Assumes nothing.
 use mathlib.Core.Path.{_≡_, refl, sym, _∙_, ap}
 use mathlib.Core.List.{List}

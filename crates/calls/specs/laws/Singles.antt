@@ -1,6 +1,7 @@
 -- A sweep is the inspections that it makes: a list of events comes to a list of single things, with the same world after it.
 --   run-singles     running the events is running the single things that they come to
 --   sweep-counts    a sweep that is not refused makes exactly as many counted turns as it says
+-- Not here: what an event and a single thing are, in specs/Events; how long anybody waits, in waiting.
 -- Assumes nothing.
 use mathlib.Core.Path.{_≡_, refl, sym, _∙_, ap}
 use mathlib.Core.Bool.{Bool, true}

@@ -2,6 +2,7 @@
 --   mapTo       the first so many elements changed, the rest as they were
 --   map-one     one more element
 --   map-all     all of them: the map of the list
+-- Not here: lists in general, in the library (lib.Seq, lib.ListN).
 -- Assumes nothing.
 use mathlib.Core.Path.{_≡_, refl, ap}
 use mathlib.Core.List.{List, [], _∷_, map}

@@ -3,6 +3,7 @@
 --   total-same           numbers that agree at every act have one sum
 --   total-le, total-eq   what is spent, with what is left, is at most (is) what is given, with what there was: if so for each act, then over the run
 --   never .. until-map   a test that nothing passes; weaker readings of what holds on the way
+-- Not here: what a run and a sum over it are, in specs/Machine; places visited in rotation, in Rotation.
 -- Assumes nothing.
 use mathlib.Core.Path.{_≡_, refl, ap}
 use mathlib.Core.Bool.{Bool, false}

@@ -3,6 +3,7 @@
 --   Goes              what an act may do to somebody who waits at p: end the wait, be a turn elsewhere or an own turn spent on something else, or be no turn
 --   Outcome, bound    over any list of acts: the wait ended, or it goes on; either way in fewer than P turns, and P more for each own turn spent
 --   each-once         in any P turns each place gets exactly one
+-- Not here: runs and what holds on the way, in Machine; what the places are and who waits there, in waiting.
 -- Assumes nothing.
 use mathlib.Core.Path.{_≡_, refl, sym, _∙_, ap}
 use mathlib.Core.Bool.{Bool, true, false, _&&_}

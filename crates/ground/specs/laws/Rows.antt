@@ -4,6 +4,7 @@
 --   Gives, first-gives    a table gives a number: the rows before it do not apply, and its own does; 0 where no row applies
 --   Passed, first-zero    a table of numbers other than 0 gives 0 exactly where no row of it applies
 --   first-then, first-stops, first-both   a table that is two tables, one after the other
+-- Not here: what a row and a table are, in specs/Choose; finding the branch that the code took, in Tests.
 -- Assumes nothing.
 use mathlib.Core.Path.{_≡_, refl, sym, _∙_}
 use mathlib.Core.Bool.{Bool, true, false, _&&_, _||_}

@@ -3,6 +3,7 @@
 --   started-shows, started-flag   START clears what DIA shows, and the flag
 --   cleared-fresh                 after a reset it is a new unit's
 --   raised-flag, ticked-flag      an interrupt and a tick set the flag
+-- Not here: the bits of the status word, in words, Codes; when an interrupt is raised, in input, output and scan.
 -- Assumes nothing.
 use mathlib.Core.Path.{_≡_, refl}
 use mathlib.Core.Bool.{true, false}

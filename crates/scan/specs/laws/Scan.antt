@@ -6,6 +6,7 @@
 --   Moves, scan-moves           what every inspection that is a turn does: no refusal, its port named, the position one on, the rest kept
 --   moves-sound, answer-names   the record is sound again; an answer other than "nothing" names its port
 --   turn-takes, service-empty   after its turn a port holds nothing; after a service the transmitter is as it was unless a byte was handed to it
+-- Not here: what a turn is, in specs/Turn; what a service does to the memory, in laws/Kept of input and of output; bounds on waiting, in waiting.
 -- Assumes nothing.
 use mathlib.Core.Path.{_≡_, refl, ap, sym, _∙_}
 use mathlib.Core.Bool.{Bool, true, false, not, _&&_, false≢true}

@@ -5,6 +5,7 @@
 --   Sweeping, sweeps                  a sweep is the composition of the inspections it counts: n, or fewer only because the last one raised
 --   Listed, listed                    what the sweep leaves in the list
 --   sweep-refused, sweep-accepted     the call
+-- Not here: what a sweep is, in specs/Sweep; that a list of calls may be read with its sweeps as inspections, in calls, laws/Singles.
 -- Assumes nothing.
 use mathlib.Core.Path.{_≡_, refl, sym, _∙_, ap}
 use mathlib.Core.Bool.{Bool, true, false, true≢false}

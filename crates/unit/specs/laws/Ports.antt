@@ -2,6 +2,7 @@
 --   held-inside, empty-inside       a port that holds a character, or whose transmitter is empty, is one of the array's
 --   port-same, -other, -written     the port that was written, and every other port
 --   OnlyPort                        two records that differ in one port at most
+-- Not here: what a port is and where its control block lies, in specs/Record and laws/Sound.
 -- Assumes nothing.
 use mathlib.Core.Path.{_≡_, refl, sym, _∙_, ap}
 use mathlib.Core.Bool.{Bool, true, false}

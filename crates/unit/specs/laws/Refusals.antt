@@ -2,6 +2,7 @@
 --   given                        each number exactly when its row applies and none before it, of every kind of call
 --   setup-refusal, by-size ..    setup's number, part by part
 --   inspection-refusal, sweep-refusal   a call's number is that of the smaller call, and then its own rows
+-- Not here: the table itself, in specs/Refusals; what refusal 0 says in numbers, in Sound.
 -- Assumes nothing.
 use mathlib.Core.Path.{_≡_, refl, _∙_}
 use mathlib.Core.Bool.{Bool, true, false, not}

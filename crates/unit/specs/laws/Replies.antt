@@ -3,6 +3,7 @@
 --   either-way                what holds of the record itself and of the record after holds of what a call leaves
 --   Answered, guarded-answers a reply that has the number k, and keeps the record where k is a refusal
 --   setup-accepted, -refused      of setup: a fresh unit, or the number and the record of zeros
+-- Not here: what a reply is, in specs/Reply; that every call answers so, in calls, laws/Refusals.
 -- Assumes nothing.
 use mathlib.Core.Path.{_≡_, refl, sym}
 use Prim.Native.Nat.{ℕ}

@@ -7,6 +7,7 @@
 --   fresh-sound              what setup makes is sound; the record of zeros is not
 --   sizes                    the sizes that pass, in numbers
 --   block-inside             a port's control block lies in the memory
+-- Not here: what fits and what is sound, in specs/Sound; what a refused call leaves, in Replies.
 -- Assumes nothing.
 use mathlib.Core.Path.{_≡_, refl, ap, _∙_, sym}
 use mathlib.Core.Bool.{true, false, not, _||_}

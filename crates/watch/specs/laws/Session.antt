@@ -1,5 +1,6 @@
 -- What follows from the session's setting.
 --   fits   setup takes it
+-- Not here: what a setting that fits is, in unit, Sound.
 -- Assumes nothing.
 use mathlib.Core.Path.{refl}
 use native.Mathlib.Omega.{arith}

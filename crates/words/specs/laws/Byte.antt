@@ -1,4 +1,5 @@
 -- Laws of bytes in the host's memory: the length is kept; what is stored is read back; every other word and every other byte is as it was.
+-- Not here: what a byte of the memory is, in specs/Byte; fields of one word, in Field.
 -- Assumes nothing.
 use mathlib.Core.Path.{_≡_, _∙_, ap, refl}
 use mathlib.Core.Bool.{Bool, true, false}

@@ -1,4 +1,5 @@
 -- What 7-bit ASCII mode makes of a byte is a byte.
+-- Not here: the table of codes, in specs/Codes.
 -- Assumes nothing.
 use mathlib.Core.Bool.{Bool, true, false}
 use Prim.Native.Nat.{ℕ, _+_, _%_, _<_}

@@ -1,4 +1,5 @@
 -- Laws of a bit field: put as a sum; a field read back; a field beside it; what is written fits a word.
+-- Not here: which fields there are, in specs/Codes.
 -- Assumes nothing.
 use mathlib.Core.Path.{_≡_, sym, _∙_, ap}
 use Prim.Native.Nat.{ℕ, _+_, _*_, _/_, _%_, _<_, _≤_}

@@ -1,4 +1,5 @@
 -- Every length has a code.
+-- Not here: what a length is, in specs/Length.
 -- Assumes nothing.
 use Prim.Native.Nat.{ℕ, _<_}
 use lib.Pow.{pow-pos}
