@@ -39,13 +39,13 @@ performed w (Processor o) = looked (order (w .mux) o) (w .memory)
 performed w Inspect = inspection (w .mux) (w .memory)
 
 -- a call that leaves the list as it was
-abbrev pub listed : Looked → List ℕ → Outcome
-listed l xs = record { reply = l .reply; world = l .world; list = xs }
+abbrev pub withList : Looked → List ℕ → Outcome
+withList l xs = record { reply = l .reply; world = l .world; list = xs }
 
 -- one call, by what is asked
 unfoldable pub stepOf : World → List ℕ → Setting → What → Outcome
-stepOf w xs s Setup = listed (looked (setUp (w .mux) (setup s)) (w .memory)) xs
-stepOf w xs s (Do a) = listed (performed w a) xs
+stepOf w xs s Setup = withList (looked (setUp (w .mux) (setup s)) (w .memory)) xs
+stepOf w xs s (Do a) = withList (performed w a) xs
 stepOf w xs s (Sweep n) = sweep (w .mux) (w .memory) n xs
 
 -- one call

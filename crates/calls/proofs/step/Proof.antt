@@ -4,7 +4,7 @@ use denote.Ref.{now}
 use borrow.Author.Needs.{needs}
 use Rattle.calls.proofs.step.Statement.{statement}
 use Rattle.unit.specs.Reply.{Looked}
-use Rattle.calls.specs.Calls.{listed, stepOf}
+use Rattle.calls.specs.Calls.{withList, stepOf}
 use Rattle.calls.proofs.step.Tie as tie
 
 returns : tie.Need-returns
@@ -13,7 +13,7 @@ returns c = simp (c .before .enum-told .given .1) (rw (c .set-up .ensures))
 
 returns-2 : tie.Need-returns-2
 unfolding stepOf
-returns-2 c = simp (c .before .before .before .before .before .w .given .1) (ap (λ (l : Looked). listed l (now (c .before .before .before .before .before .before .before .before .before .before .args .list))) (c .before .before .apply .ensures))
+returns-2 c = simp (c .before .before .before .before .before .w .given .1) (ap (λ (l : Looked). withList l (now (c .before .before .before .before .before .before .before .before .before .before .args .list))) (c .before .before .apply .ensures))
 
 returns-3 : tie.Need-returns-3
 unfolding stepOf

@@ -30,7 +30,7 @@ use Rattle.calls.specs.declared.call.Act.the-variants.{Line, Processor, 
 use Rattle.calls.specs.declared.call.What.{What}
 use Rattle.calls.specs.declared.call.What.the-variants.{Setup, Do, Sweep}
 use Rattle.calls.specs.declared.call.Call.{Call}
-use Rattle.calls.specs.Calls.{setUp, performed, listed, stepOf, step, givenTo, givenOf}
+use Rattle.calls.specs.Calls.{setUp, performed, withList, stepOf, step, givenTo, givenOf}
 
 -- the number k, and where it is a refusal the record, the memory and the list as they were, with no further result
 pub record Refuses (k : ℕ) (u : Mux) (m xs : List ℕ) (o : Outcome) : Type 0 where
@@ -38,7 +38,7 @@ pub record Refuses (k : ℕ) (u : Mux) (m xs : List ℕ) (o : Outcome) : Type 0 
   pub keeps : (k ≡ 0 → ⊥) → o ≡ outcome (refused k u) m xs
 
 -- a call on the record alone
-on-record : (k : ℕ) (u : Mux) (m xs : List ℕ) (r : Replied) → Answered k u r → Refuses k u m xs (listed (looked r m) xs)
+on-record : (k : ℕ) (u : Mux) (m xs : List ℕ) (r : Replied) → Answered k u r → Refuses k u m xs (withList (looked r m) xs)
 on-record k u m xs r a = record { number = a .number; keeps = λ h. ap (λ (x : Replied). outcome x m xs) (a .keeps h) }
 
 -- a setup beside a record that stands
@@ -52,16 +52,16 @@ set-up u s =
     }
 
 -- an inspection
-looks : (u : Mux) (m xs : List ℕ) → Refuses (refusal (ofInspection u m)) u m xs (listed (inspection u m) xs)
+looks : (u : Mux) (m xs : List ℕ) → Refuses (refusal (ofInspection u m)) u m xs (withList (inspection u m) xs)
 looks u m xs = go (kind u m)
   where
-    go : Kind u m → Refuses (refusal (ofInspection u m)) u m xs (listed (inspection u m) xs)
+    go : Kind u m → Refuses (refusal (ofInspection u m)) u m xs (withList (inspection u m) xs)
     go (takes-turn e r t) =
         record { number = ap (λ (l : Looked). l .reply .code) t ∙ scan-moves u m .code ∙ sym e; keeps = λ h. absurd (h e) }
     go (stands-still k e t) =
         record {
           number = ap (λ (l : Looked). l .reply .code) t ∙ sym e;
-          keeps = λ h. ap (λ (l : Looked). listed l xs) t ∙ ap (λ (n : ℕ). outcome (refused n u) m xs) (sym e);
+          keeps = λ h. ap (λ (l : Looked). withList l xs) t ∙ ap (λ (n : ℕ). outcome (refused n u) m xs) (sym e);
         }
 
 -- a sweep
@@ -73,7 +73,7 @@ sweeps u m n xs = record { number = go (ℕ-discrete (refusal (ofSweep u m n xs)
     go (no h) = rw (sweep-refused u m n xs h)
 
 -- one thing asked of the unit that stands
-pub performed-refuses : (w : World) (xs : List ℕ) (a : Act) → Refuses (refusal (givenTo w a)) (w .mux) (w .memory) xs (listed (performed w a) xs)
+pub performed-refuses : (w : World) (xs : List ℕ) (a : Act) → Refuses (refusal (givenTo w a)) (w .mux) (w .memory) xs (withList (performed w a) xs)
 unfolding performed givenTo line order
 performed-refuses w xs (Line p e) = on-record _ (w .mux) (w .memory) xs _ (guarded-answers _ (w .mux) _ refl)
 performed-refuses w xs (Processor o) = on-record _ (w .mux) (w .memory) xs _ (guarded-answers _ (w .mux) _ refl)

@@ -1,7 +1,7 @@
 -- Laws of one inspection (document 01, of that name). The services are not opened.
 --   runs-scans .. kind          which inspection is a turn: a sound running unit with 32,768 words always takes it
 --   scanned-input .. -idle      a held character means input; else an empty transmitter means output; else nothing is done
---   served-says, served-names   what a turn that served answers
+--   served-says, served-names, idle-says   what a turn that served answers, and one that serves nothing
 --   Does, turn-does             what every turn of a port does, over what it reads
 --   Moves, scan-moves           what every inspection that is a turn does: no refusal, its port named, the position one on, the rest kept
 --   moves-sound, answer-names   the record is sound again; an answer other than "nothing" names its port
@@ -28,7 +28,7 @@ use Rattle.unit.specs.declared.mux.Setting.{Setting}
 use Rattle.unit.specs.declared.mux.Port.{Port}
 use Rattle.unit.specs.declared.mux.Mux.{Mux}
 use Rattle.unit.specs.declared.reply.Turn.{Turn}
-use Rattle.unit.specs.declared.reply.Turn.the-variants.{Served}
+use Rattle.unit.specs.declared.reply.Turn.the-variants.{Idle, Served}
 use Rattle.unit.specs.Record.{portAt, addressAt}
 use Rattle.unit.specs.Reply.{counts, refused, Looked, looked}
 use Rattle.unit.specs.Refusals.{WORDS, refusal, ofInspection}
@@ -114,6 +114,11 @@ served-says k u m = refl
 pub served-names : (k : Service) (u : Mux) (m : List ℕ) → serviceTurn k u m .reply .answer .port ≡ u .pos
 unfolding serviceTurn servedTurn
 served-names k u m = refl
+
+-- what a turn that serves nothing answers
+pub idle-says : (p : ℕ) (q : Port) (i : Irq) (m : List ℕ) → idleTurn p q i m .turned .answer .turn ≡ Idle
+unfolding idleTurn
+idle-says p q i m = refl
 
 -- ---- what a turn of a port does
 
