@@ -1,5 +1,5 @@
 -- The session to watch: what the contracts of this program cite.
---   Session   its setting, and where a word of a port's control block lies
+--   Session   its unit, what its host writes, and the record and the memory after each part
 -- What follows from it stands in laws/.
 pub mod Session
 pub mod laws

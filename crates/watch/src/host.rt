@@ -19,11 +19,9 @@ use words::codes::OUTMO;
 use words::field::put;
 ghost use mathlib.Core.Path.{_≡_};
 ghost use Prim.Native.Nat.{_<_};
-ghost use lib.ListN.{length, getD, set};
+ghost use lib.ListN.{length, getD};
 ghost use Rattle.ground.specs.Choose.{Below};
-ghost use Rattle.words.specs.Field.{put};
-ghost use Rattle.words.specs.Codes.{atICW, INMO, inEcho, ASCII, OUTMO, outControl, DEVICE-CONTROL, CHARACTER};
-ghost use Rattle.watch.specs.Session.{three, placeOf};
+ghost use Rattle.watch.specs.Session.{three, placeOf, withWord, controlWord, controlPut, inputAsked, inputPut, greetingPut, outputPut};
 
 // The unit of the session: three ports with blocks of 8 words from word 64 on.
 pub fn three() -> Setting
@@ -58,7 +56,7 @@ pub fn word_of(mem: &[u16], p: u32, k: usize) -> u16
 fn put_word(mem: &mut [u16], p: u32, k: usize, word: u16)
     requires { ⌜ length (now mem) ≡ 32768 ⌝ }
     requires { ⌜ k < 8 ⌝ }
-    ensures { λ _. ⌜ now (mem .exit) ≡ set (now (mem .entry)) (placeOf p k) word ⌝ }
+    ensures { λ _. ⌜ now (mem .exit) ≡ withWord p k word (now (mem .entry)) ⌝ }
 {
     let at = place_of(p, k);
     mem[at] = word;
@@ -66,7 +64,7 @@ fn put_word(mem: &mut [u16], p: u32, k: usize, word: u16)
 
 // OCW for port control: Device Control 1, control bits octal 67 (8 bits, 9600 baud).
 fn control_word() -> u16
-    ensures { λ r. ⌜ r ≡ put CHARACTER 0o67 (put DEVICE-CONTROL 1 (put OUTMO outControl 0)) ⌝ }
+    ensures { λ r. ⌜ r ≡ controlWord ⌝ }
 {
     let mode = put(0, OUTMO, OUT_CONTROL);
     put(put(mode, DEVICE_CONTROL, 1), CHARACTER, 0o67)
@@ -75,6 +73,7 @@ fn control_word() -> u16
 // Each port's length and speed, by port control.
 pub fn put_control(mem: &mut [u16])
     requires { ⌜ length (now mem) ≡ 32768 ⌝ }
+    ensures { λ _. ⌜ now (mem .exit) ≡ controlPut (now (mem .entry)) ⌝ }
 {
     put_word(mem, 0, OCW, control_word());
     put_word(mem, 1, OCW, control_word());
@@ -84,7 +83,7 @@ pub fn put_control(mem: &mut [u16])
 // Port 0 is asked for automatic input with echo, in 7-bit ASCII mode.
 pub fn ask_input(mem: &mut [u16])
     requires { ⌜ length (now mem) ≡ 32768 ⌝ }
-    ensures { λ _. ⌜ now (mem .exit) ≡ set (now (mem .entry)) (placeOf 0 atICW) (put ASCII 1 (put INMO inEcho 0)) ⌝ }
+    ensures { λ _. ⌜ now (mem .exit) ≡ inputAsked (now (mem .entry)) ⌝ }
 {
     put_word(mem, 0, ICW, put(put(0, INMO, IN_ECHO), ASCII, 1));
 }
@@ -92,6 +91,7 @@ pub fn ask_input(mem: &mut [u16])
 // Port 0: input from byte 2001 to byte 2005. Port 1: single mode, which is 0.
 pub fn put_input(mem: &mut [u16])
     requires { ⌜ length (now mem) ≡ 32768 ⌝ }
+    ensures { λ _. ⌜ now (mem .exit) ≡ inputPut (now (mem .entry)) ⌝ }
 {
     ask_input(mem);
     put_word(mem, 0, IBP, 2000);
@@ -102,6 +102,7 @@ pub fn put_input(mem: &mut [u16])
 // Bytes 3000 to 3004: a word of greeting.
 fn put_greeting(mem: &mut [u16])
     requires { ⌜ length (now mem) ≡ 32768 ⌝ }
+    ensures { λ _. ⌜ now (mem .exit) ≡ greetingPut (now (mem .entry)) ⌝ }
 {
     store(mem, 3000, b'a');
     store(mem, 3001, b'l');
@@ -113,6 +114,7 @@ fn put_greeting(mem: &mut [u16])
 // Port 2: automatic output of bytes 3000 to 3004.
 pub fn put_output(mem: &mut [u16])
     requires { ⌜ length (now mem) ≡ 32768 ⌝ }
+    ensures { λ _. ⌜ now (mem .exit) ≡ outputPut (now (mem .entry)) ⌝ }
 {
     put_greeting(mem);
     put_word(mem, 2, OBP, 2999);

@@ -24,14 +24,16 @@ use processor::orders::Order;
 use unit::mux::Mux;
 use unit::refusal::MOST_INSPECTIONS;
 use unit::reply::Replied;
-use unit::reply::Reply;
 use unit::setup::no_mux;
 ghost use mathlib.Core.Path.{_≡_};
+ghost use Prim.Native.Nat.{_+_};
 ghost use lib.ListN.{length};
-ghost use Rattle.unit.specs.Reply.{world, looked};
+ghost use Rattle.unit.specs.Refusals.{MOST-INSPECTIONS};
+ghost use Rattle.unit.specs.Reply.{world, looked, outcome};
 ghost use Rattle.sweep.specs.Sweep.{sweep};
-ghost use Rattle.calls.specs.declared.call.Act.the-variants.{Line, Processor};
+ghost use Rattle.calls.specs.declared.call.Act.the-variants.{Line, Processor, Inspect};
 ghost use Rattle.calls.specs.Calls.{performed};
+ghost use Rattle.watch.specs.Session.{after, inputAsked, turned, rotated, typed, keyed, keyedThree, setUp, began, prepared, firstHalf, session, lent, afterSweep, afterSweeps};
 
 // One thing asked of the unit. Only a sweep has a list, so it is given none.
 fn asked(u: Mux, mem: &mut [u16], act: Act) -> Replied
@@ -43,7 +45,7 @@ fn asked(u: Mux, mem: &mut [u16], act: Act) -> Replied
 
 // The record after an order of the processor's.
 fn ordered(u: Mux, mem: &mut [u16], order: Order) -> Mux
-    ensures { λ r. ⌜ world r (now (mem .exit)) ≡ performed (world u (now (mem .entry))) (Processor order) .world ⌝ }
+    ensures { λ r. ⌜ world r (now (mem .exit)) ≡ after (Processor order) (world u (now (mem .entry))) ⌝ }
 {
     let r = asked(u, mem, Act::Processor { order });
     r.mux
@@ -51,7 +53,7 @@ fn ordered(u: Mux, mem: &mut [u16], order: Order) -> Mux
 
 // The record after a signal of port p's line.
 fn signalled(u: Mux, mem: &mut [u16], p: u32, signal: Signal) -> Mux
-    ensures { λ r. ⌜ world r (now (mem .exit)) ≡ performed (world u (now (mem .entry))) (Line p signal) .world ⌝ }
+    ensures { λ r. ⌜ world r (now (mem .exit)) ≡ after (Line p signal) (world u (now (mem .entry))) ⌝ }
 {
     let r = asked(u, mem, Act::Line { port: p, signal });
     r.mux
@@ -60,6 +62,7 @@ fn signalled(u: Mux, mem: &mut [u16], p: u32, signal: Signal) -> Mux
 // One inspection, in plain words; the record after it.
 fn watched(u: Mux, mem: &mut [u16]) -> Mux
     requires { ⌜ length (now mem) ≡ 32768 ⌝ }
+    ensures { λ r. ⌜ world r (now (mem .exit)) ≡ after Inspect (world u (now (mem .entry))) ⌝ }
 {
     let before = seen(mem, u.pos);
     let r = asked(u, mem, Act::Inspect);
@@ -77,6 +80,7 @@ fn watched(u: Mux, mem: &mut [u16]) -> Mux
 // One inspection; the processor takes the status by DIAS, and the port's transmitter runs empty.
 fn turned(u: Mux, mem: &mut [u16]) -> Mux
     requires { ⌜ length (now mem) ≡ 32768 ⌝ }
+    ensures { λ r. ⌜ world r (now (mem .exit)) ≡ turned (world u (now (mem .entry))) ⌝ }
 {
     let p = u.pos;
     let v = watched(u, mem);
@@ -87,6 +91,7 @@ fn turned(u: Mux, mem: &mut [u16]) -> Mux
 // A rotation: an inspection of each of the three ports.
 fn rotated(u: Mux, mem: &mut [u16]) -> Mux
     requires { ⌜ length (now mem) ≡ 32768 ⌝ }
+    ensures { λ r. ⌜ world r (now (mem .exit)) ≡ rotated (world u (now (mem .entry))) ⌝ }
 {
     let v = turned(u, mem);
     let w = turned(v, mem);
@@ -94,7 +99,9 @@ fn rotated(u: Mux, mem: &mut [u16]) -> Mux
 }
 
 // A character typed at port p.
-fn typed(u: Mux, mem: &mut [u16], p: u32, b: u8) -> Mux {
+fn typed(u: Mux, mem: &mut [u16], p: u32, b: u8) -> Mux
+    ensures { λ r. ⌜ world r (now (mem .exit)) ≡ typed p b (world u (now (mem .entry))) ⌝ }
+{
     write_all(1, b"typed at port ");
     say_number(p as u64);
     write_all(1, b": octal ");
@@ -115,6 +122,7 @@ fn typed(u: Mux, mem: &mut [u16], p: u32, b: u8) -> Mux {
 // A character typed at port 0, and a rotation.
 fn keyed(u: Mux, mem: &mut [u16], b: u8) -> Mux
     requires { ⌜ length (now mem) ≡ 32768 ⌝ }
+    ensures { λ r. ⌜ world r (now (mem .exit)) ≡ keyed b (world u (now (mem .entry))) ⌝ }
 {
     let v = typed(u, mem, 0, b);
     rotated(v, mem)
@@ -123,6 +131,7 @@ fn keyed(u: Mux, mem: &mut [u16], b: u8) -> Mux
 // Three characters typed at port 0, a rotation after each.
 fn keyed_three(u: Mux, mem: &mut [u16], a: u8, b: u8, c: u8) -> Mux
     requires { ⌜ length (now mem) ≡ 32768 ⌝ }
+    ensures { λ r. ⌜ world r (now (mem .exit)) ≡ keyedThree a b c (world u (now (mem .entry))) ⌝ }
 {
     let v = keyed(u, mem, a);
     let w = keyed(v, mem, b);
@@ -130,14 +139,18 @@ fn keyed_three(u: Mux, mem: &mut [u16], a: u8, b: u8, c: u8) -> Mux
 }
 
 // A new unit of three ports; a setup has no list either.
-fn set_up(mem: &mut [u16]) -> Mux {
+fn set_up(mem: &mut [u16]) -> Mux
+    ensures { λ r. ⌜ world r (now (mem .exit)) ≡ setUp (now (mem .entry)) ⌝ }
+{
     let mut none = [0u16; 1];
     let r = door::call_by_value(no_mux(), mem, &mut none, setting_up(three()));
     r.mux
 }
 
 // The unit at the start of the session: it runs.
-fn began(mem: &mut [u16]) -> Mux {
+fn began(mem: &mut [u16]) -> Mux
+    ensures { λ r. ⌜ world r (now (mem .exit)) ≡ began (now (mem .entry)) ⌝ }
+{
     let u = set_up(mem);
     ordered(u, mem, Order::Doc)
 }
@@ -145,6 +158,7 @@ fn began(mem: &mut [u16]) -> Mux {
 // Port control at each port, and then the control blocks of the session.
 fn prepared(u: Mux, mem: &mut [u16]) -> Mux
     requires { ⌜ length (now mem) ≡ 32768 ⌝ }
+    ensures { λ r. ⌜ world r (now (mem .exit)) ≡ prepared (world u (now (mem .entry))) ⌝ }
 {
     put_control(mem);
     write_all(
@@ -160,6 +174,7 @@ fn prepared(u: Mux, mem: &mut [u16]) -> Mux
 // The first half of the word pu'uku, its glottal stop keyed as octal 174, and x at port 1.
 fn first_half(u: Mux, mem: &mut [u16]) -> Mux
     requires { ⌜ length (now mem) ≡ 32768 ⌝ }
+    ensures { λ r. ⌜ world r (now (mem .exit)) ≡ firstHalf (world u (now (mem .entry))) ⌝ }
 {
     let v = typed(u, mem, 1, b'x');
     keyed_three(v, mem, b'p', b'u', 0o174)
@@ -168,6 +183,7 @@ fn first_half(u: Mux, mem: &mut [u16]) -> Mux
 // The host has seen the special, and asks for input again.
 fn asked_again(mem: &mut [u16])
     requires { ⌜ length (now mem) ≡ 32768 ⌝ }
+    ensures { λ _. ⌜ now (mem .exit) ≡ inputAsked (now (mem .entry)) ⌝ }
 {
     write_all(
         1,
@@ -179,6 +195,7 @@ fn asked_again(mem: &mut [u16])
 // The whole session.
 fn session(mem: &mut [u16]) -> Mux
     requires { ⌜ length (now mem) ≡ 32768 ⌝ }
+    ensures { λ r. ⌜ world r (now (mem .exit)) ≡ session (now (mem .entry)) ⌝ }
 {
     let u = began(mem);
     let v = prepared(u, mem);
@@ -196,12 +213,11 @@ fn say_buffer(mem: &[u16])
     write_all(1, b"\n");
 }
 
-// What a sweep of n answers.
-fn swept(u: Mux, mem: &mut [u16], list: &mut [u16], n: u32) -> Reply
-    ensures { λ r. ⌜ r ≡ sweep u (now (mem .entry)) n (now (list .entry)) .reply ⌝ }
+// A sweep of n inspections.
+fn swept(u: Mux, mem: &mut [u16], list: &mut [u16], n: u32) -> Replied
+    ensures { λ r. ⌜ outcome r (now (mem .exit)) (now (list .exit)) ≡ sweep u (now (mem .entry)) n (now (list .entry)) ⌝ }
 {
-    let r = door::call_by_value(u, mem, list, asking(What::Sweep { n }));
-    r.reply
+    door::call_by_value(u, mem, list, asking(What::Sweep { n }))
 }
 
 // Whether a call was accepted.
@@ -214,29 +230,37 @@ fn say_accepted(code: u8) {
 }
 
 // A sweep of none.
-fn say_none(u: Mux, mem: &mut [u16], list: &mut [u16]) {
+fn say_none(u: Mux, mem: &mut [u16], list: &mut [u16])
+    ensures { λ _. ⌜ lent (now (mem .exit)) (now (list .exit)) ≡ afterSweep u 0 (lent (now (mem .entry)) (now (list .entry))) ⌝ }
+{
     let r = swept(u, mem, list, 0);
     write_all(1, b"sweep of 0 returns ");
-    say_number(r.made as u64);
+    say_number(r.reply.made as u64);
 }
 
 // A sweep of the most.
-fn say_most(u: Mux, mem: &mut [u16], list: &mut [u16]) {
+fn say_most(u: Mux, mem: &mut [u16], list: &mut [u16])
+    ensures { λ _. ⌜ lent (now (mem .exit)) (now (list .exit)) ≡ afterSweep u MOST-INSPECTIONS (lent (now (mem .entry)) (now (list .entry))) ⌝ }
+{
     let r = swept(u, mem, list, MOST_INSPECTIONS);
     write_all(1, b"; 4096");
-    say_accepted(r.code);
+    say_accepted(r.reply.code);
 }
 
 // A sweep of one more.
-fn say_over(u: Mux, mem: &mut [u16], list: &mut [u16]) {
+fn say_over(u: Mux, mem: &mut [u16], list: &mut [u16])
+    ensures { λ _. ⌜ lent (now (mem .exit)) (now (list .exit)) ≡ afterSweep u (MOST-INSPECTIONS + 1) (lent (now (mem .entry)) (now (list .entry))) ⌝ }
+{
     let r = swept(u, mem, list, MOST_INSPECTIONS + 1);
     write_all(1, b"; 4097 gives ");
-    say_number(r.code as u64);
+    say_number(r.reply.code as u64);
     write_all(1, b"\n");
 }
 
 // The settled example of sweeps, each of the same unit.
-fn say_sweeps(u: Mux, mem: &mut [u16], list: &mut [u16]) {
+fn say_sweeps(u: Mux, mem: &mut [u16], list: &mut [u16])
+    ensures { λ _. ⌜ lent (now (mem .exit)) (now (list .exit)) ≡ afterSweeps u (lent (now (mem .entry)) (now (list .entry))) ⌝ }
+{
     say_none(u, mem, list);
     say_most(u, mem, list);
     say_over(u, mem, list);

@@ -1,11 +1,22 @@
--- What follows from the session's setting.
---   fits   setup takes it
--- Not here: what a setting that fits is, in unit, Sound.
+-- What follows from the session's definitions.
+--   fits            setup takes its setting
+--   parts           every definition that the session computes with, named once
+--   special-apart   on a memory of zeros: the glottal stop stands in ICW
+--   word-stored     on a memory of zeros: the letters stand in the buffer, without it
+-- Not here: what a setting that fits is, in unit, Sound; the glottal stop on any memory, in input, laws/Glottal.
 -- Assumes nothing.
-use mathlib.Core.Path.{refl}
+use mathlib.Core.Path.{_≡_, refl}
+use mathlib.Core.List.{[], _∷_, map}
+use Prim.Native.Nat.{_+_}
 use native.Mathlib.Omega.{arith}
+use lib.ListN.{getD}
+use Rattle.words.specs.Field.{get}
+use Rattle.words.specs.Codes.{atICW, CHARACTER}
+use Rattle.words.specs.Byte.{byteAt}
 use Rattle.unit.specs.Sound.{eight, Fits}
-use Rattle.watch.specs.Session.{three}
+use Rattle.calls.specs.Examples.{clear}
+use Rattle.calls.specs.laws.Examples.{everything}
+use Rattle.watch.specs.Session.{three, placeOf, withWord, controlWord, controlPut, inputAsked, inputPut, greetingPut, outputPut, turned, rotated, typed, keyed, keyedThree, setUp, began, prepared, firstHalf, session}
 
 -- setup takes the session's setting
 pub fits : Fits three
@@ -15,3 +26,18 @@ fits =
       base = record { aligned = refl; low = omega arith };
       area = record { one = refl; inside = omega arith };
     }
+
+-- every definition that the session computes with: to unfold this is to unfold them all
+unfoldable parts : Unit {0}
+unfolding everything placeOf withWord controlWord controlPut inputAsked inputPut greetingPut outputPut turned rotated typed keyed keyedThree setUp began prepared firstHalf session
+parts = tt
+
+-- after the first half of the word the glottal stop stands in ICW of port 0, octal 174 with the top bit
+pub special-apart : get CHARACTER (getD (firstHalf (prepared (began clear)) .memory) (placeOf 0 atICW) 0) ≡ 0o374
+unfolding parts
+special-apart = refl
+
+-- at the end the buffer has p, u, u, k and u from byte 2001 on, each with the top bit, and no glottal stop
+pub word-stored : map (byteAt (session clear .memory)) (2001 ∷ 2002 ∷ 2003 ∷ 2004 ∷ 2005 ∷ []) ≡ map (_+_ 128) (112 ∷ 117 ∷ 117 ∷ 107 ∷ 117 ∷ [])
+unfolding parts
+word-stored = refl
