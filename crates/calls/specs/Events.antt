@@ -3,32 +3,25 @@
 --   Single, result, after  a single thing: a call that is no sweep, or a host write; what it answers and leaves
 --   runSingles             the world after a list of single things
 --   singlesOf, singles     the single things that an event comes to where it happens, a sweep being the inspections that it makes
---   counted .. echoAt      tests of a single thing by what it answers
---   arrivesAt, breaks      a character that port p takes; a stop, a reset or a new setup
--- Not here: that running events is running their single things, in laws/Singles.
+--   single                 a single thing as an event
+--   counted                an inspection that counts
+-- Not here: that running events is running their single things, in laws/Singles; what else a single thing may be, in waiting, Counting.
 -- Assumes nothing.
-use mathlib.Core.Bool.{Bool, true, false, _&&_}
+use mathlib.Core.Bool.{Bool}
 use mathlib.Core.List.{List, [], _∷_, _++_}
 use Prim.Native.Nat.{ℕ}
-use lib.Dec.{eqb}
 use lib.ListN.{replicate}
 use Rattle.ground.specs.Machine
-use Rattle.interrupt.specs.declared.Service.{Service}
-use Rattle.interrupt.specs.declared.Service.the-variants.{Input, Output}
 use Rattle.unit.specs.declared.mux.Setting.{Setting}
-use Rattle.unit.specs.declared.reply.Turn.the-variants.{Served}
-use Rattle.unit.specs.Reply.{turnNumber, counts, refused, World, world, Looked, looked}
+use Rattle.unit.specs.Reply.{counts, refused, World, world, Looked, looked}
 use Rattle.unit.specs.Setup.{setup}
-use Rattle.lines.specs.declared.signal.Signal.{Signal}
-use Rattle.lines.specs.declared.signal.Signal.the-variants.{Arrival, TransmitterEmpty, DeviceStatus}
-use Rattle.processor.specs.Processor.{stops}
 use Rattle.sweep.specs.Sweep.{sweep}
 use Rattle.calls.specs.declared.call.Act.{Act}
-use Rattle.calls.specs.declared.call.Act.the-variants.{Line, Processor, Inspect}
+use Rattle.calls.specs.declared.call.Act.the-variants.{Inspect}
 use Rattle.calls.specs.declared.call.What.{What}
 use Rattle.calls.specs.declared.call.What.the-variants.{Setup, Do, Sweep}
 use Rattle.calls.specs.declared.call.Call.{Call}
-use Rattle.calls.specs.Calls.{setUp, performed, step}
+use Rattle.calls.specs.Calls.{setUp, performed, step, asking, settingUp}
 
 -- ---- events
 
@@ -81,61 +74,14 @@ unfoldable pub singles : World → List Event → List Single
 singles w [] = []
 singles w (e ∷ es) = singlesOf w e ++ singles (happens w e) es
 
--- ---- tests of a single thing where it is made, each by what it answers
+-- a single thing as an event; none of them has a list
+unfoldable pub single : Single → Event
+single (setsUp s) = calls (settingUp s) []
+single (does a) = calls (asking (Do a)) []
+single (writes m) = hostWrites m
 
--- an inspection that counts: neither refused nor of a stopped unit
+-- ---- inspections that count
+
+-- an inspection that counts, by what it answers: neither refused nor of a stopped unit
 unfoldable pub counted : World → Single → Bool
 counted w a = counts (result w a .reply .answer .turn)
-
--- port p's turn
-unfoldable pub turnAt : ℕ → World → Single → Bool
-turnAt p w a = counted w a && eqb (result w a .reply .answer .port) p
-
--- port p's turn that goes to a service
-unfoldable pub serviceAt : Service → ℕ → World → Single → Bool
-serviceAt k p w a = eqb (turnNumber (result w a .reply .answer .turn)) (turnNumber (Served k)) && eqb (result w a .reply .answer .port) p
-
--- port p's turn that goes to input, and one that goes to output
-abbrev pub inputAt : ℕ → World → Single → Bool
-inputAt p w a = serviceAt Input p w a
-
-abbrev pub outputAt : ℕ → World → Single → Bool
-outputAt p w a = serviceAt Output p w a
-
--- port p's turn that goes to input, with an echo that fills the transmitter
-unfoldable pub echoAt : ℕ → World → Single → Bool
-echoAt p w a = inputAt p w a && result w a .reply .answer .sent
-
--- a call that is not refused
-unfoldable pub taken : World → Single → Bool
-taken w a = eqb (result w a .reply .code) 0
-
--- an arrival, of the signals
-unfoldable pub isArrival : Signal → Bool
-isArrival (Arrival c parity brk) = true
-isArrival TransmitterEmpty = false
-isArrival (DeviceStatus level) = false
-
--- an arrival at port p
-unfoldable pub bringsTo : ℕ → Single → Bool
-bringsTo p (setsUp s) = false
-bringsTo p (does (Line q e)) = eqb q p && isArrival e
-bringsTo p (does (Processor o)) = false
-bringsTo p (does Inspect) = false
-bringsTo p (writes m) = false
-
--- a character that port p takes
-unfoldable pub arrivesAt : ℕ → World → Single → Bool
-arrivesAt p w a = bringsTo p a && taken w a
-
--- a stop, a reset or a setup
-unfoldable pub isBreak : Single → Bool
-isBreak (setsUp s) = true
-isBreak (does (Line q e)) = false
-isBreak (does (Processor o)) = stops o
-isBreak (does Inspect) = false
-isBreak (writes m) = false
-
--- a stop, a reset or a new setup, not refused
-unfoldable pub breaks : World → Single → Bool
-breaks w a = isBreak a && taken w a

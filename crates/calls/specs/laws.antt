@@ -1,9 +1,11 @@
 -- What follows from the definitions of the calls. Nothing here need be believed.
 --   Refusals   every call answers by the table's number, and a refusal changes nothing
 --   Outcomes   any two outcomes that a contract allows are equal
+--   Places     no call changes the number of places of the array of ports
 --   Singles    running a list of events is running the single things that it comes to
 --   Examples   the worked examples hold
 pub mod Refusals
 pub mod Outcomes
+pub mod Places
 pub mod Singles
 pub mod Examples

@@ -3,7 +3,7 @@
 --   switched               the other orders change only switches and the interrupt side
 --   valueOf, after         what each order returns, and the record after it
 --   order                  the call, which refuses an unsound record
---   stops                  the orders that stop a unit
+--   isReset, stops         the order that drops what is held; the orders that stop a unit
 -- Not here: what START, DIA, a tick and a reset do inside the interrupt side, in interrupt, Interrupt; what follows, in laws/Processor.
 -- Assumes nothing.
 use mathlib.Core.Bool.{Bool, true, false}
@@ -69,6 +69,17 @@ after Tick u = switched u (u .runs) (u .clock) (pick (u .clock) (Interrupt.ticke
 -- an order of the processor's
 unfoldable pub order : Mux → Order → Replied
 order u o = guarded (refusal (ofUnit u)) u (accepted (valueOf o (u .irq)) (after o u))
+
+-- the order that drops what the ports hold
+abbrev pub isReset : Order → Bool
+isReset Reset = true
+isReset Iopls = false
+isReset Start = false
+isReset Doc = false
+isReset Dob = false
+isReset Dia = false
+isReset Dias = false
+isReset Tick = false
 
 -- the orders that stop a unit that runs
 abbrev pub stops : Order → Bool

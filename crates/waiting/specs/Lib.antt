@@ -1,5 +1,7 @@
--- Demand 3: nobody waits for ever.
---   Waiting   the statement
--- Its proof stands in laws/.
+-- Nobody waits for ever (demand 3).
+--   Counting   tests of a single thing, for whoever counts
+--   Waiting    the statement
+-- What follows from them stands in laws/.
+pub mod Counting
 pub mod Waiting
 pub mod laws

@@ -4,35 +4,41 @@
 -- and carries the overload mark. In any (k+1)·P inspections that begin with a port's transmitter empty, in which at most k of its own turns
 -- go to input and no echo fills that transmitter, its output is served. Both hold whatever other lines do and whatever the host writes; only
 -- an echo of the port's own falls outside the second."
---   P, Running, Holds, Empty         the ports of a unit; a running unit; port p holds the character c; port p's transmitter is empty
---   turns, inputs, Soon, SoonFor     counted inspections; port p's turns to input; the two bounds
---   met, next, Broken, NotAgain      the world that the end of a wait meets, and the one after; a stop, reset or setup while it waits; served once
---   Served, Replaced, Kept, Fate     what becomes of a held character, over any list of events
---   Handed, Echoed, Idle, OutputFate what becomes of an empty transmitter
---   Demand                           all that is proved
--- A list of events is read as the single things that it comes to (`singles`): a sweep is the inspections that it makes.
+--   P .. Since                  a unit's ports; a running unit; what a port holds; an empty transmitter; a world that a setup began
+--   Counts, Turn, Takes, Tests  what counts, goes to a service, is taken or stops the unit, and that the tests are true there alone
+--   turns .. drops, NotAgain    counts over a list of single things
+--   First, Second, Ended, Lasts the two bounds; a wait that a single thing of the list ended; one that lasts
+--   Served .. Fate              what becomes of a held character
+--   Handed .. OutputFate        what becomes of an empty transmitter
+--   Demand                      all that is proved
+-- Everything is said of any list of single things, so a window may begin or end inside a sweep; a list of calls, made through the door or
+-- not, comes to such a list (`events`, `door`), and every such list is that of some calls (`windows`).
 -- Not here: events, single things and tests of them, in calls, Events; the turn of a port that goes to a service, in scan, Scan.
 -- Assumes nothing.
 use mathlib.Core.Path.{_≡_}
-use mathlib.Core.Bool.{Bool, true}
-use mathlib.Core.List.{List}
-use mathlib.Core.Logic.{_⊎_}
+use mathlib.Core.Bool.{Bool, true, false}
+use mathlib.Core.List.{List, map}
+use mathlib.Core.Logic.{_↔_, _⊎_}
 use Prim.Native.Nat.{ℕ, _+_, _*_, _≤_, _<_}
 use lib.ListN.{length}
+use Rattle.ground.specs.Choose.{bit}
 use Rattle.ground.specs.Machine.{tally, Throughout, Until}
+use Rattle.interrupt.specs.declared.Service.{Service}
 use Rattle.interrupt.specs.declared.Service.the-variants.{Input, Output}
 use Rattle.unit.specs.declared.mux.Setting.{Setting}
 use Rattle.unit.specs.declared.mux.Character.{Character}
 use Rattle.unit.specs.Record.{portAt}
 use Rattle.unit.specs.Reply.{World}
-use Rattle.unit.specs.Refusals.{WORDS, refusal, ofSweep}
+use Rattle.unit.specs.Refusals.{WORDS, MOST-PORTS, refusal, ofSetup, ofSweep}
 use Rattle.unit.specs.Sound.{Sound, AllPorts}
 use Rattle.lines.specs.declared.signal.Signal.the-variants.{Arrival}
 use Rattle.scan.specs.Scan.{serviceTurn}
 use Rattle.sweep.specs.Sweep.{sweep}
 use Rattle.calls.specs.declared.call.Act.the-variants.{Line, Inspect}
 use Rattle.calls.specs.declared.call.What.the-variants.{Sweep}
-use Rattle.calls.specs.Events.{Event, run, Single, does, result, after, runSingles, singlesIn, singles, counted, turnAt, inputAt, echoAt, arrivesAt, breaks}
+use Rattle.calls.specs.Events.{Event, run, Single, setsUp, does, result, after, runSingles, singlesIn, singles, single, counted}
+use Rattle.door.specs.Door.{Made}
+use Rattle.waiting.specs.Counting.{turnAt, serviceAt, inputAt, takesAt, breaks, holdsAt, replacesAt, dropsAt}
 
 -- ---- the words of the demand
 
@@ -47,111 +53,170 @@ pub record Running (w : World) : Type 0 where
 
 -- port p holds the character c
 pub record Holds (p : ℕ) (c : Character) (w : World) : Type 0 where
-  pub held : portAt (w .mux) p .held ≡ true
+  pub held : holdsAt p w ≡ true
   pub same : portAt (w .mux) p .ch ≡ c
 
 -- port p's transmitter is empty
 abbrev pub Empty : ℕ → World → Type 0
 Empty p w = portAt (w .mux) p .empty ≡ true
 
--- how many inspections count
+-- a world that a setup began, after whatever has come since
+pub record Since (w : World) : Type 0 where
+  pub before : World
+  pub setting : Setting
+  pub accepted : refusal (ofSetup setting) ≡ 0
+  pub since : List Single
+  pub now : w ≡ runSingles (after before (setsUp setting)) since
+
+-- ---- what a single thing is, where it is made
+
+-- an inspection that counts: of a running unit, with a memory of 32,768 words
+pub record Counts (w : World) (a : Single) : Type 0 where
+  pub look : a ≡ does Inspect
+  pub running : Running w
+  pub words : length (w .memory) ≡ WORDS
+
+-- port p's turn that goes to the service k, as demand 2 has it: record, memory and reply
+pub record Turn (k : Service) (p : ℕ) (w : World) (a : Single) : Type 0 where
+  pub look : a ≡ does Inspect
+  pub position : w .mux .pos ≡ p
+  pub rules : result w a ≡ serviceTurn k (w .mux) (w .memory)
+
+-- a character that port p takes: it arrives at a sound unit that has the port
+pub record Takes (p : ℕ) (w : World) (a : Single) : Type 0 where
+  pub byte : ℕ
+  pub parity : Bool
+  pub brk : Bool
+  pub arrival : a ≡ does (Line p (Arrival byte parity brk))
+  pub sound : Sound (w .mux)
+  pub below : p < P w
+
+-- the unit no longer runs after it
+abbrev pub Stops : World → Single → Type 0
+Stops w a = after w a .mux .runs ≡ false
+
+-- the tests by which things are counted are true there and nowhere else; a running unit stops by a stop, a reset or a new setup, and by
+-- nothing else
+pub record Tests : Type 0 where
+  pub counting : (w : World) (a : Single) → (counted w a ≡ true) ↔ Counts w a
+  pub turning : (p : ℕ) (w : World) (a : Single) → (turnAt p w a ≡ true) ↔ (Counts w a × (w .mux .pos ≡ p))
+  pub serving : (k : Service) (p : ℕ) (w : World) (a : Single) → (serviceAt k p w a ≡ true) ↔ Turn k p w a
+  pub taking : (p : ℕ) (w : World) (a : Single) → (takesAt p w a ≡ true) ↔ Takes p w a
+  pub breaking : (w : World) (a : Single) → Running w → (breaks w a ≡ true) ↔ Stops w a
+
+-- ---- counts over a list of single things
+
+-- inspections that count
 abbrev pub turns : World → List Single → ℕ
 turns w xs = tally after counted w xs
 
--- how many of port p's own turns go to input
+-- port p's own turns that go to input
 abbrev pub inputs : ℕ → World → List Single → ℕ
 inputs p w xs = tally after (inputAt p) w xs
 
--- fewer than P inspections counted
-abbrev pub Soon : World → List Single → Type 0
-Soon w xs = turns w xs < P w
+-- characters that port p takes; held ones that another replaces; held ones that a reset or a new setup drops
+abbrev pub taken : ℕ → World → List Single → ℕ
+taken p w xs = tally after (takesAt p) w xs
 
--- fewer than P, and P more for each of port p's own turns that went to input
-abbrev pub SoonFor : ℕ → World → List Single → Type 0
-SoonFor p w xs = turns w xs < (inputs p w xs + 1) * P w
+abbrev pub replacements : ℕ → World → List Single → ℕ
+replacements p w xs = tally after (replacesAt p) w xs
 
--- the world that the single thing at the end of a wait meets, and the world after it
-abbrev pub met : {C : World → Type 0} {w : World} {xs : List Single} → Until after C w xs → World
-met {w = w} u = runSingles w (u .before)
+abbrev pub drops : ℕ → World → List Single → ℕ
+drops p w xs = tally after (dropsAt p) w xs
 
-abbrev pub next : {C : World → Type 0} {w : World} {xs : List Single} → Until after C w xs → World
-next u = after (met u) (u .here)
-
--- a stop, a reset or a new setup came during the wait
-pub record Broken (C : World → Type 0) (w : World) (xs : List Single) : Type 0 where
-  pub wait : Until after C w xs
-  pub cause : breaks (met wait) (wait .here) ≡ true
-
--- whatever events follow: where no further character arrives at port p, no inspection serves its input
+-- whatever follows, port p has no more turns to input than it takes characters
 abbrev pub NotAgain : ℕ → World → Type 0
-NotAgain p w = (es : List Event) → tally after (arrivesAt p) w (singles w es) ≡ 0 → inputs p w (singles w es) ≡ 0
+NotAgain p w = (xs : List Single) → inputs p w xs ≤ taken p w xs
+
+-- ---- a wait
+
+-- the first bound: no character was taken at port p, so it is the same one that waits, and fewer than P inspections counted
+pub record First (p : ℕ) (w : World) (xs : List Single) : Type 0 where
+  pub alone : taken p w xs ≡ 0
+  pub soon : turns w xs < P w
+
+-- the second: fewer than P inspections counted, and P more for each of port p's own turns that went to input
+abbrev pub Second : ℕ → World → List Single → Type 0
+Second p w xs = turns w xs < (inputs p w xs + 1) * P w
+
+-- C held at every moment, within the bound, until a single thing of the list ended it
+pub record Ended (C : World → Type 0) (Bound : World → List Single → Type 0) (End : World → Single → Type 0) (w : World) (xs : List Single) : Type 0 where
+  pub wait : Until after C w xs
+  pub bound : Bound w (wait .before)
+  pub end : End (runSingles w (wait .before)) (wait .here)
+
+-- C holds at every moment, within the bound
+pub record Lasts (C : World → Type 0) (Bound : World → List Single → Type 0) (w : World) (xs : List Single) : Type 0 where
+  pub still : Throughout after C w xs
+  pub bound : Bound w xs
 
 -- ---- a held character
 
--- it was served: held untouched until an inspection, after fewer than P counted ones, was port p's input turn as demand 2 has it,
--- record, memory and reply; and it is not served again
-pub record Served (p : ℕ) (c : Character) (w : World) (xs : List Single) : Type 0 where
-  pub wait : Until after (Holds p c) w xs
-  pub soon : Soon w (wait .before)
-  pub look : wait .here ≡ does Inspect
-  pub turn : met wait .mux .pos ≡ p
-  pub rules : result (met wait) (wait .here) ≡ serviceTurn Input (met wait .mux) (met wait .memory)
-  pub once : NotAgain p (next wait)
+-- served: port p's turn went to input, and not again for this character
+pub record InputTurn (p : ℕ) (w : World) (a : Single) : Type 0 where
+  pub turn : Turn Input p w a
+  pub once : NotAgain p (after w a)
 
--- it was replaced: held untouched until a later character of its own line, after fewer than P counted inspections, took its place;
--- that one is held and carries the overload mark
-pub record Replaced (p : ℕ) (c : Character) (w : World) (xs : List Single) : Type 0 where
-  pub wait : Until after (Holds p c) w xs
-  pub soon : Soon w (wait .before)
-  pub arrival : arrivesAt p (met wait) (wait .here) ≡ true
-  pub held : portAt (next wait .mux) p .held ≡ true
-  pub mark : portAt (next wait .mux) p .ch .overload ≡ true
+-- replaced: a later character of its own line is held in its place, and carries the overload mark
+pub record Replacement (p : ℕ) (w : World) (a : Single) : Type 0 where
+  pub later : Takes p w a
+  pub held : holdsAt p (after w a) ≡ true
+  pub mark : portAt (after w a .mux) p .ch .overload ≡ true
 
--- it waits still: held untouched all along, and fewer than P inspections counted
-pub record Kept (p : ℕ) (c : Character) (w : World) (xs : List Single) : Type 0 where
-  pub still : Throughout after (Holds p c) w xs
-  pub few : Soon w xs
+abbrev pub Served : ℕ → Character → World → List Single → Type 0
+Served p c = Ended (Holds p c) (First p) (InputTurn p)
 
--- what became of it
+abbrev pub Replaced : ℕ → Character → World → List Single → Type 0
+Replaced p c = Ended (Holds p c) (First p) (Replacement p)
+
+-- a stop, a reset or a new setup came while it waited
+abbrev pub Broken : ℕ → Character → World → List Single → Type 0
+Broken p c = Ended (Holds p c) (First p) Stops
+
+-- what becomes of it
 pub data Fate (p : ℕ) (c : Character) (w : World) (xs : List Single) : Type 0 where
   served : Served p c w xs → Fate p c w xs
   replaced : Replaced p c w xs → Fate p c w xs
-  broken : Broken (Holds p c) w xs → Fate p c w xs
-  waits : Kept p c w xs → Fate p c w xs
+  broken : Broken p c w xs → Fate p c w xs
+  waits : Lasts (Holds p c) (First p) w xs → Fate p c w xs
 
 -- ---- an empty transmitter
 
--- port p's output was served: its transmitter was empty until an inspection was port p's output turn as demand 2 has it, after fewer than P
--- counted inspections, and P more for each of its own turns that went to input
-pub record Handed (p : ℕ) (w : World) (xs : List Single) : Type 0 where
-  pub wait : Until after (Empty p) w xs
-  pub soon : SoonFor p w (wait .before)
-  pub look : wait .here ≡ does Inspect
-  pub turn : met wait .mux .pos ≡ p
-  pub rules : result (met wait) (wait .here) ≡ serviceTurn Output (met wait .mux) (met wait .memory)
+-- an echo of the port's own fills it
+pub record Echo (p : ℕ) (w : World) (a : Single) : Type 0 where
+  pub input : Turn Input p w a
+  pub sent : result w a .reply .answer .sent ≡ true
+  pub full : portAt (after w a .mux) p .empty ≡ false
 
--- an echo of the port's own filled the transmitter
-pub record Echoed (p : ℕ) (w : World) (xs : List Single) : Type 0 where
-  pub wait : Until after (Empty p) w xs
-  pub echo : echoAt p (met wait) (wait .here) ≡ true
+-- its output was served
+abbrev pub Handed : ℕ → World → List Single → Type 0
+Handed p = Ended (Empty p) (Second p) (Turn Output p)
 
--- it waits still: empty all along, and within the bound
-pub record Idle (p : ℕ) (w : World) (xs : List Single) : Type 0 where
-  pub still : Throughout after (Empty p) w xs
-  pub few : SoonFor p w xs
+abbrev pub Echoed : ℕ → World → List Single → Type 0
+Echoed p = Ended (Empty p) (Second p) (Echo p)
 
--- what became of it
+abbrev pub OutputBroken : ℕ → World → List Single → Type 0
+OutputBroken p = Ended (Empty p) (Second p) Stops
+
+-- what becomes of it
 pub data OutputFate (p : ℕ) (w : World) (xs : List Single) : Type 0 where
   handed : Handed p w xs → OutputFate p w xs
   echoed : Echoed p w xs → OutputFate p w xs
-  broken : Broken (Empty p) w xs → OutputFate p w xs
-  waits : Idle p w xs → OutputFate p w xs
+  broken : OutputBroken p w xs → OutputFate p w xs
+  waits : Lasts (Empty p) (Second p) w xs → OutputFate p w xs
 
 -- ---- the demand
 
--- running a list of events is running the single things that it comes to
+-- running a list of events is running the single things that it comes to, and every list of single things is that of some events
 abbrev pub Events : Type 0
 Events = (w : World) (es : List Event) → run w es ≡ runSingles w (singles w es)
+
+abbrev pub Windows : Type 0
+Windows = (w : World) (xs : List Single) → singles w (map single xs) ≡ xs
+
+-- what stands after a list of calls made through the door is what their single things give
+abbrev pub Door : Type 0
+Door = (w v : World) (es : List Event) → Made w es v → v ≡ runSingles w (singles w es)
 
 -- a sweep that is not refused makes exactly as many counted turns as it says
 abbrev pub Sweeps : Type 0
@@ -160,50 +225,61 @@ Sweeps =
     refusal (ofSweep (w .mux) (w .memory) n list) ≡ 0 →
     turns w (singlesIn w list s (Sweep n)) ≡ sweep (w .mux) (w .memory) n list .reply .made
 
--- an inspection of a running unit with a memory of 32,768 words always counts
-abbrev pub Always : Type 0
-Always = (w : World) → Running w → length (w .memory) ≡ WORDS → counted w (does Inspect) ≡ true
+-- what a setup made has its 128 ports ever after
+abbrev pub Places : Type 0
+Places = (w : World) → Since w → AllPorts (w .mux)
 
--- in any P counted inspections, with no stop, reset or new setup among them, every port gets exactly one turn
+-- in any P counted inspections of a unit that runs all along, every port gets exactly one turn
 abbrev pub Rotation : Type 0
 Rotation =
-    (w : World) (es : List Event) (p : ℕ) → Running w → p < P w → let xs = singles w es in
-    tally after breaks w xs ≡ 0 → turns w xs ≡ P w →
+    (w : World) (xs : List Single) (p : ℕ) → Sound (w .mux) → p < P w →
+    Throughout after (λ v. v .mux .runs ≡ true) w xs → turns w xs ≡ P w →
     tally after (turnAt p) w xs ≡ 1
 
--- a held character: served, replaced, broken off, or waiting within the bound, over any list of events
-abbrev pub HeldCharacter : Type 0
-HeldCharacter =
-    (w : World) (p : ℕ) (c : Character) (es : List Event) → Running w → p < P w → Holds p c w → Fate p c w (singles w es)
+-- no character is lost uncounted or served twice: what was held and taken is what was served, replaced, dropped, and is held still
+abbrev pub Balance : Type 0
+Balance =
+    (w : World) (p : ℕ) (xs : List Single) → AllPorts (w .mux) → p < MOST-PORTS →
+    taken p w xs + bit (holdsAt p w) ≡ inputs p w xs + replacements p w xs + drops p w xs + bit (holdsAt p (runSingles w xs))
 
--- within P inspections after a character arrives it has been served, or a later one of its own line replaced it and carries the mark
-abbrev pub FirstBound : Type 0
-FirstBound =
-    (v : World) (p b : ℕ) (parity brk : Bool) (es : List Event) → Running v → AllPorts (v .mux) → p < P v →
-    let w = after v (does (Line p (Arrival b parity brk))) in let c = portAt (w .mux) p .ch in let xs = singles w es in
-    (Broken (Holds p c) w xs → ⊥) → P w ≤ turns w xs →
+-- a held character: served, replaced, broken off, or waiting within the bound
+abbrev pub HeldCharacter : Type 0
+HeldCharacter = (w : World) (p : ℕ) (c : Character) (xs : List Single) → Running w → p < P w → Holds p c w → Fate p c w xs
+
+-- within P inspections after a character arrives it has been served, or a later one of its own line replaced it and carries the mark;
+-- in every world of the kind `Of`
+abbrev pub FirstBound : (World → Type 0) → Type 0
+FirstBound Of =
+    (v : World) (p : ℕ) (a : Single) (xs : List Single) → Of v → Running v → Takes p v a →
+    let w = after v a in let c = portAt (w .mux) p .ch in
+    (Broken p c w xs → ⊥) → P w ≤ turns w xs →
     Served p c w xs ⊎ Replaced p c w xs
 
--- an empty transmitter: its output served, filled by an echo, broken off, or waiting within the bound, over any list of events
+-- an empty transmitter: its output served, filled by an echo, broken off, or waiting within the bound
 abbrev pub EmptyTransmitter : Type 0
-EmptyTransmitter = (w : World) (p : ℕ) (es : List Event) → Running w → p < P w → Empty p w → OutputFate p w (singles w es)
+EmptyTransmitter = (w : World) (p : ℕ) (xs : List Single) → Running w → p < P w → Empty p w → OutputFate p w xs
 
 -- in any (k+1)·P inspections that begin with port p's transmitter empty, with at most k of its own turns to input and no echo, its output is
 -- served within them
 abbrev pub SecondBound : Type 0
 SecondBound =
-    (w : World) (p k : ℕ) (es : List Event) → Running w → p < P w → Empty p w → let xs = singles w es in
-    inputs p w xs ≤ k → tally after (echoAt p) w xs ≡ 0 →
-    (Broken (Empty p) w xs → ⊥) → (k + 1) * P w ≤ turns w xs →
+    (w : World) (p k : ℕ) (xs : List Single) → Running w → p < P w → Empty p w →
+    inputs p w xs ≤ k → (Echoed p w xs → ⊥) →
+    (OutputBroken p w xs → ⊥) → (k + 1) * P w ≤ turns w xs →
     (h : Handed p w xs) × (turns w (h .wait .before) < (k + 1) * P w)
 
 -- demand 3
 pub record Demand : Type 0 where
   pub events : Events
+  pub windows : Windows
+  pub door : Door
   pub sweeps : Sweeps
-  pub always : Always
+  pub tests : Tests
+  pub places : Places
   pub rotation : Rotation
+  pub balance : Balance
   pub input : HeldCharacter
-  pub first-bound : FirstBound
+  pub first-bound : FirstBound Since
+  pub any-record : FirstBound (λ v. AllPorts (v .mux))
   pub output : EmptyTransmitter
   pub second-bound : SecondBound

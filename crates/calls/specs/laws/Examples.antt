@@ -27,12 +27,12 @@ use Rattle.output.specs.Output.{outDone, isAuto, autoPlan, controlPlan, singleP
 use Rattle.scan.specs.Turn.{service, took, irqAfter, servedTurn, idleTurn, turn}
 use Rattle.scan.specs.Scan.{nextPos, serviceTurn, scanned, inspection}
 use Rattle.calls.specs.Calls.{setUp, performed}
-use Rattle.calls.specs.Events.{result, counted, turnAt, serviceAt, echoAt}
+use Rattle.calls.specs.Events.{result, counted}
 use Rattle.calls.specs.Examples.{turnsOf, Starred, Manual}
 
 -- every definition that a step of the unit computes with: to unfold this is to unfold them all
 unfoldable pub everything : Unit {0}
-unfolding pick bit asked firstOf Machine.run Machine.total get put storedByte wordByte echoedByte atEnd halfAt byteAt storeByte wordIf byteIf isSpecial lengthOf spanOf cut speedOf busy moreMarked serviceMarked statusAfter raised started ticked shown Interrupt.unsound portAt blockAt addressAt counts guarded badBlock badPorts badBase crosses overruns sizeRows baseRows areaRows settingRows unsound rowsOf callRows tableOf refusal setup signalled line Processor.after order errorCode ascii replacedICW doneICW replacedPlan donePlan storedPlan inputPlan carried inputService outDone isAuto autoPlan controlPlan singlePlan outputPlan differs statusBits becomesChanged writtenOCW outputService service took irqAfter servedTurn idleTurn turn nextPos serviceTurn scanned inspection setUp performed result counted turnAt serviceAt echoAt turnsOf
+unfolding pick bit asked firstOf Machine.run Machine.total get put storedByte wordByte echoedByte atEnd halfAt byteAt storeByte wordIf byteIf isSpecial lengthOf spanOf cut speedOf busy moreMarked serviceMarked statusAfter raised started ticked shown Interrupt.unsound portAt blockAt addressAt counts guarded badBlock badPorts badBase crosses overruns sizeRows baseRows areaRows settingRows unsound rowsOf callRows tableOf refusal setup signalled line Processor.after order errorCode ascii replacedICW doneICW replacedPlan donePlan storedPlan inputPlan carried inputService outDone isAuto autoPlan controlPlan singlePlan outputPlan differs statusBits becomesChanged writtenOCW outputService service took irqAfter servedTurn idleTurn turn nextPos serviceTurn scanned inspection setUp performed result counted turnsOf
 everything = tt
 
 pub starred : Starred

@@ -1,11 +1,12 @@
 -- A sweep is the inspections that it makes: a list of events comes to a list of single things, with the same world after it.
 --   run-singles     running the events is running the single things that they come to
+--   singles-single  every list of single things is what some events come to
 --   sweep-counts    a sweep that is not refused makes exactly as many counted turns as it says
 -- Not here: what an event and a single thing are, in specs/Events; how long anybody waits, in waiting.
 -- Assumes nothing.
 use mathlib.Core.Path.{_≡_, refl, sym, _∙_, ap}
 use mathlib.Core.Bool.{Bool, true}
-use mathlib.Core.List.{List, [], _∷_}
+use mathlib.Core.List.{List, [], _∷_, map}
 use Prim.Native.Nat.{ℕ}
 use native.Mathlib.Decide.{ℕ-discrete}
 use native.Mathlib.Omega.{arith}
@@ -28,7 +29,7 @@ use Rattle.calls.specs.declared.call.Act.the-variants.{Inspect}
 use Rattle.calls.specs.declared.call.What.{What}
 use Rattle.calls.specs.declared.call.What.the-variants.{Setup, Do, Sweep}
 use Rattle.calls.specs.Calls.{performed, stepOf}
-use Rattle.calls.specs.Events.{Event, calls, hostWrites, happens, run, Single, does, result, after, runSingles, singlesIn, singlesOf, singles, counted}
+use Rattle.calls.specs.Events.{Event, calls, hostWrites, happens, run, Single, setsUp, does, writes, single, result, after, runSingles, singlesIn, singlesOf, singles, counted}
 
 -- ---- a sweep
 
@@ -128,3 +129,11 @@ run-singles w (e ∷ es) =
     run-singles (happens w e) es
     ∙ ap (λ v. runSingles v (singles (happens w e) es)) (sym (event-singles w e))
     ∙ sym (run-append after w (singlesOf w e) (singles (happens w e) es))
+
+-- single things made as events come to themselves
+pub singles-single : (w : World) (xs : List Single) → singles w (map single xs) ≡ xs
+unfolding singles singlesOf singlesIn single
+singles-single w [] = refl
+singles-single w (setsUp s ∷ xs) = ap (λ l. setsUp s ∷ l) (singles-single _ xs)
+singles-single w (does a ∷ xs) = ap (λ l. does a ∷ l) (singles-single _ xs)
+singles-single w (writes m ∷ xs) = ap (λ l. writes m ∷ l) (singles-single _ xs)

@@ -2,21 +2,24 @@
 --   call-number            what is said through the door has the table's number
 --   AsItWas, call-refused  a refusal leaves the lent record, the memory and the list as they were, and no further result
 --   Same, call-one         any two outcomes that the door's contract allows are equal
+--   made-run               after a list of calls made through the door the record and the memory are `run`'s
 -- Not here: the case analysis of the calls, in laws/Refusals and laws/Outcomes of the crate calls.
 -- Assumes nothing.
-use mathlib.Core.Path.{_≡_, _∙_, ap}
+use mathlib.Core.Path.{_≡_, refl, _∙_, ap}
 use mathlib.Core.List.{List}
 use Prim.Native.Nat.{ℕ}
+use Rattle.ground.specs.Machine
 use Rattle.unit.specs.declared.mux.Mux.{Mux}
 use Rattle.unit.specs.declared.reply.Reply.{Reply}
 use Rattle.unit.specs.declared.reply.Replied.{Replied}
-use Rattle.unit.specs.Reply.{nothing, world, Outcome}
+use Rattle.unit.specs.Reply.{nothing, World, world, Outcome}
 use Rattle.unit.specs.Refusals.{refusal}
 use Rattle.calls.specs.declared.call.Call.{Call}
 use Rattle.calls.specs.Calls.{step, givenOf}
+use Rattle.calls.specs.Events.{Event, happens, run}
 use Rattle.calls.specs.laws.Refusals.{step-refuses}
 use Rattle.calls.specs.laws.Outcomes.{one-outcome}
-use Rattle.door.specs.Door.{lent}
+use Rattle.door.specs.Door.{lent, Made, ready, called, written}
 
 -- the record v, the memory n and the list ys are u, m and xs, and the reply has no further result
 pub record AsItWas (u v : Mux) (m n xs ys : List ℕ) (r : Reply) : Type 0 where
@@ -63,3 +66,10 @@ pub call-one :
 call-one u m xs c r s u₁ u₂ m₁ m₂ xs₁ xs₂ p q =
     let one = one-outcome .step-one (world u m) xs c (record { reply = r; mux = u₁ }) (record { reply = s; mux = u₂ }) m₁ m₂ xs₁ xs₂ p q in
     record { reply = ap (λ (x : Replied). x .reply) (one .0); mux = ap (λ (x : Replied). x .mux) (one .0); memory = one .1 .0; list = one .1 .1 }
+
+-- what stands after a list of calls made through the door, host writes between them, is what `run` gives
+pub made-run : {w v : World} {es : List Event} → Made w es v → v ≡ run w es
+unfolding Machine.run happens
+made-run ready = refl
+made-run (called {es = es} c r u m xs ys e rest) = made-run rest ∙ ap (λ (o : Outcome). run (o .world) es) e
+made-run (written m rest) = made-run rest

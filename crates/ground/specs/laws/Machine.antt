@@ -1,12 +1,13 @@
 -- Laws of runs, over any machine.
 --   run-append ..        the laws of a list that is two lists
---   total-same           numbers that agree at every act have one sum
---   total-le, total-eq   what is spent, with what is left, is at most (is) what is given, with what there was: if so for each act, then over the run
+--   total-add, -same     the sum of two numbers; numbers that agree at every act have one sum
+--   run-keeps            what every act keeps
+--   total-eq             what is spent, with what is left, is what is given, with what there was: if so for each act, then over the run
 --   never .. until-map   a test that nothing passes; weaker readings of what holds on the way
 -- Not here: what a run and a sum over it are, in specs/Machine; places visited in rotation, in Rotation.
 -- Assumes nothing.
 use mathlib.Core.Path.{_≡_, refl, ap}
-use mathlib.Core.Bool.{Bool, false}
+use mathlib.Core.Bool.{false}
 use mathlib.Core.List.{List, [], _∷_, _++_}
 use Prim.Native.Nat.{ℕ, _+_, _≤_}
 use native.Mathlib.Omega.{arith}
@@ -26,19 +27,26 @@ module _ {S A : Type 0} (step : S → A → S) where
   total-append f s [] ys = omega arith
   total-append f s (a ∷ xs) ys = omega (arith, total-append f (step s a) xs ys)
 
+  -- what every act keeps holds after a list of them
+  pub run-keeps : (C : S → Type 0) → ((s : S) (a : A) → C s → C (step s a)) → (s : S) (xs : List A) → C s → C (run step s xs)
+  unfolding run
+  run-keeps C keeps s [] c = c
+  run-keeps C keeps s (a ∷ xs) c = run-keeps C keeps (step s a) xs (keeps s a c)
+
   -- ---- sums over a run
 
-  -- what is spent, with what is left, is at most what is given, with what there was
-  pub total-le : (spent given : S → A → ℕ) (left : S → ℕ) → ((s : S) (a : A) → spent s a + left (step s a) ≤ given s a + left s) → (s : S) (xs : List A) → total step spent s xs + left (run step s xs) ≤ total step given s xs + left s
+  -- what is spent, with what is left, is what is given, with what there was: if so for each act where C holds, and every act keeps C
+  pub total-eq : (C : S → Type 0) → ((s : S) (a : A) → C s → C (step s a)) → (spent given : S → A → ℕ) (left : S → ℕ) → ((s : S) (a : A) → C s → spent s a + left (step s a) ≡ given s a + left s) → (s : S) (xs : List A) → C s → total step spent s xs + left (run step s xs) ≡ total step given s xs + left s
   unfolding run total
-  total-le spent given left each s [] = omega arith
-  total-le spent given left each s (a ∷ xs) = omega (arith, each s a, total-le spent given left each (step s a) xs)
+  total-eq C keeps spent given left each s [] c = omega arith
+  total-eq C keeps spent given left each s (a ∷ xs) c =
+      omega (arith, each s a c, total-eq C keeps spent given left each (step s a) xs (keeps s a c))
 
-  -- the same as an equation
-  pub total-eq : (spent given : S → A → ℕ) (left : S → ℕ) → ((s : S) (a : A) → spent s a + left (step s a) ≡ given s a + left s) → (s : S) (xs : List A) → total step spent s xs + left (run step s xs) ≡ total step given s xs + left s
-  unfolding run total
-  total-eq spent given left each s [] = omega arith
-  total-eq spent given left each s (a ∷ xs) = omega (arith, each s a, total-eq spent given left each (step s a) xs)
+  -- the sum of two numbers is the two sums
+  pub total-add : (f g : S → A → ℕ) (s : S) (xs : List A) → total step (λ r a. f r a + g r a) s xs ≡ total step f s xs + total step g s xs
+  unfolding total
+  total-add f g s [] = refl
+  total-add f g s (a ∷ xs) = omega (arith, total-add f g (step s a) xs)
 
   -- two numbers that agree at every act have one sum
   pub total-same : (f g : S → A → ℕ) → ((s : S) (a : A) → f s a ≡ g s a) → (s : S) (xs : List A) → total step f s xs ≡ total step g s xs
@@ -75,9 +83,3 @@ module _ {S A : Type 0} (step : S → A → S) where
         whole = u .whole;
         meanwhile = throughout-map C D f s (u .before) (u .meanwhile);
       }
-
-  -- what holds of every state met holds of the last one
-  pub throughout-last : (C : S → Type 0) (s : S) (xs : List A) → Throughout step C s xs → C (run step s xs)
-  unfolding run
-  throughout-last C s [] c = c
-  throughout-last C s (a ∷ xs) c = throughout-last C (step s a) xs (c .1)

@@ -1,7 +1,9 @@
 -- Places 0 to P − 1 that are visited in rotation: whoever waits for a turn at place p gets it within P turns.
 --   ahead, closer     how many turns away a place is, and that each turn brings it one nearer
---   Goes              what an act may do to somebody who waits at p: end the wait, be a turn elsewhere or an own turn spent on something else, or be no turn
---   Outcome, bound    over any list of acts: the wait ended, or it goes on; either way in fewer than P turns, and P more for each own turn spent
+--   Goes              what an act may do to somebody who waits at p: end the wait, be a turn elsewhere or an own turn spent on something else, or be no turn;
+--                     an act that is barred ends it
+--   Outcome, bound    over any list of acts: the wait ended, or it goes on; either way in fewer than P turns, and P more for each own turn spent,
+--                     and no act of the wait was barred
 --   each-once         in any P turns each place gets exactly one
 -- Not here: runs and what holds on the way, in Machine; what the places are and who waits there, in waiting.
 -- Assumes nothing.
@@ -41,53 +43,72 @@ pub around : (P a p : ℕ) → a < P → a ≡ p → Ahead P ((a + 1) % P) p (P 
 around P a p ha e =
     record { near = omega arith; there = mod-add-mod (a + 1) P (P - 1) ∙ ap (λ x. x % P) (omega arith) ∙ add-mod-right a P ∙ mod-eq-of-lt ha ∙ e }
 
-module _ {S A : Type 0} (step : S → A → S) (pos : S → ℕ) (P p : ℕ) (turn own : S → A → Bool) (Waits : S → Type 0) (End : S → A → Type 0) where
-  -- an act on somebody who waits at p: it ends the wait; or the wait goes on, and the act is a turn, which if it is p's own is spent,
-  -- or it is no turn and the position stays
+module _ {S A : Type 0} (step : S → A → S) (pos : S → ℕ) (P p : ℕ) (turn own barred : S → A → Bool) (Waits : S → Type 0) (End : S → A → Type 0) where
+  -- an act on somebody who waits at p: it ends the wait; or the wait goes on, the act is not barred, and it is a turn, which if it is p's
+  -- own is spent, or it is no turn and the position stays
   pub data Goes (s : S) (a : A) : Type 0 where
     ends : End s a → Goes s a
-    passes : Waits (step s a) → turn s a ≡ true → (pos s ≡ p → own s a ≡ true) → pos (step s a) ≡ (pos s + 1) % P → Goes s a
-    rests : Waits (step s a) → turn s a ≡ false → pos (step s a) ≡ pos s → Goes s a
+    passes : Waits (step s a) → barred s a ≡ false → turn s a ≡ true → (pos s ≡ p → own s a ≡ true) → pos (step s a) ≡ (pos s + 1) % P → Goes s a
+    rests : Waits (step s a) → barred s a ≡ false → turn s a ≡ false → pos (step s a) ≡ pos s → Goes s a
 
-  -- what became of it: an act of the list ended the wait, or it waits still; the bound on the turns taken until then
+  -- of the acts until then: none was barred, and the bound on the turns
+  pub record Within (n : ℕ) (s : S) (xs : List A) : Type 0 where
+    pub none-barred : tally step barred s xs ≡ 0
+    pub few : tally step turn s xs ≤ n + tally step own s xs * P
+
+  -- what became of it: an act of the list ended the wait, or it waits still
   pub data Outcome (n : ℕ) (s : S) (xs : List A) : Type 0 where
-    ended : (u : Until step Waits s xs) → End (run step s (u .before)) (u .here) → tally step turn s (u .before) ≤ n + tally step own s (u .before) * P → Outcome n s xs
-    waits : Throughout step Waits s xs → tally step turn s xs ≤ n + tally step own s xs * P → Outcome n s xs
+    ended : (u : Until step Waits s xs) → End (run step s (u .before)) (u .here) → Within n s (u .before) → Outcome n s xs
+    waits : Throughout step Waits s xs → Within n s xs → Outcome n s xs
 
   module _ (below : (s : S) → Waits s → pos s < P) (goes : (s : S) (a : A) → Waits s → Goes s a) where
-    -- an outcome after an act that did not end the wait
-    after : (m n : ℕ) (s : S) (a : A) (xs : List A) → Waits s → bit (turn s a) + m ≤ n + bit (own s a) * P → Outcome m (step s a) xs → Outcome n s (a ∷ xs)
-    unfolding run total
-    after m n s a xs w h (ended u e b) =
+    -- one act more that did not end the wait
+    within : (m n : ℕ) (s : S) (a : A) (ys : List A) → barred s a ≡ false → bit (turn s a) + m ≤ n + bit (own s a) * P → Within m (step s a) ys → Within n s (a ∷ ys)
+    unfolding total bit
+    within m n s a ys c h b =
+        record { none-barred = rw c (omega (arith, b .none-barred)); few = omega (arith, b .few) }
+
+    -- an outcome after it
+    after : (m n : ℕ) (s : S) (a : A) (xs : List A) → Waits s → barred s a ≡ false → bit (turn s a) + m ≤ n + bit (own s a) * P → Outcome m (step s a) xs → Outcome n s (a ∷ xs)
+    unfolding run
+    after m n s a xs w c h (ended u e b) =
         ended
         (record { before = a ∷ u .before; here = u .here; later = u .later; whole = ap (λ l. a ∷ l) (u .whole); meanwhile = (w, u .meanwhile) })
         e
-        (omega arith)
-    after m n s a xs w h (waits t b) = waits (w, t) (omega arith)
+        (within m n s a (u .before) c h b)
+    after m n s a xs w c h (waits t b) = waits (w, t) (within m n s a xs c h b)
+
+    -- no act at all
+    at-once : (n : ℕ) (s : S) → Within n s []
+    unfolding total
+    at-once n s = record { none-barred = refl; few = omega arith }
 
     from : (d : ℕ) (s : S) (xs : List A) → Waits s → Ahead P (pos s) p d → Outcome d s xs
-    unfolding run total bit
-    from d s [] w k = waits w (omega arith)
+    unfolding run bit
+    from d s [] w k = waits w (at-once d s)
     from d s (a ∷ xs) w k = go (goes s a w) (λ e r wr kr. from e r xs wr kr)
       where
-        turned : (Dec (pos s ≡ p)) → Waits (step s a) → turn s a ≡ true → (pos s ≡ p → own s a ≡ true) → pos (step s a) ≡ (pos s + 1) % P → ((e : ℕ) (r : S) → Waits r → Ahead P (pos r) p e → Outcome e r xs) → Outcome d s (a ∷ xs)
-        turned (yes h) v t o q rest =
+        turned : (Dec (pos s ≡ p)) → Waits (step s a) → barred s a ≡ false → turn s a ≡ true → (pos s ≡ p → own s a ≡ true) → pos (step s a) ≡ (pos s + 1) % P → ((e : ℕ) (r : S) → Waits r → Ahead P (pos r) p e → Outcome e r xs) → Outcome d s (a ∷ xs)
+        turned (yes h) v n t o q rest =
             let b = below s w in
-            after (P - 1) d s a xs w (rw (t, o h) (omega arith))
+            after (P - 1) d s a xs w n (rw (t, o h) (omega arith))
             (rest (P - 1) (step s a) v (rw q (around P (pos s) p (below s w) h)))
-        turned (no h) v t o q rest =
+        turned (no h) v n t o q rest =
             let c = closer P (pos s) p d (below s w) h k in
-            after (c .0) d s a xs w (rw t (omega (arith, c .1 .0))) (rest (c .0) (step s a) v (rw q (c .1 .1)))
+            after (c .0) d s a xs w n (rw t (omega (arith, c .1 .0))) (rest (c .0) (step s a) v (rw q (c .1 .1)))
 
         go : Goes s a → ((e : ℕ) (r : S) → Waits r → Ahead P (pos r) p e → Outcome e r xs) → Outcome d s (a ∷ xs)
-        go (ends e) rest = ended (record { before = []; here = a; later = xs; whole = refl; meanwhile = w }) e (omega arith)
-        go (passes v t o q) rest = turned (ℕ-discrete (pos s) p) v t o q rest
-        go (rests v t q) rest = after d d s a xs w (rw t (omega arith)) (rest d (step s a) v (rw q k))
+        go (ends e) rest = ended (record { before = []; here = a; later = xs; whole = refl; meanwhile = w }) e (at-once d s)
+        go (passes v n t o q) rest = turned (ℕ-discrete (pos s) p) v n t o q rest
+        go (rests v n t q) rest = after d d s a xs w n (rw t (omega arith)) (rest d (step s a) v (rw q k))
 
     -- a larger bound
+    larger : (m n : ℕ) (s : S) (ys : List A) → m ≤ n → Within m s ys → Within n s ys
+    larger m n s ys h b = record { none-barred = b .none-barred; few = omega (arith, b .few) }
+
     more : (m n : ℕ) (s : S) (xs : List A) → m ≤ n → Outcome m s xs → Outcome n s xs
-    more m n s xs h (ended u e b) = ended u e (omega arith)
-    more m n s xs h (waits t b) = waits t (omega arith)
+    more m n s xs h (ended u e b) = ended u e (larger m n s (u .before) h b)
+    more m n s xs h (waits t b) = waits t (larger m n s xs h b)
 
     -- whoever waits at p waits for fewer than P turns, and P more for each own turn spent
     pub bound : (s : S) (xs : List A) → p < P → Waits s → Outcome (P - 1) s xs

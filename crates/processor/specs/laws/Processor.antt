@@ -1,8 +1,8 @@
 -- Laws of what the processor does (document 01, of that name), each said once over the order where it can be.
 --   order-refused, order-accepted     an order that is refused, and one that is not; of a sound record none is
 --   order-either                  what holds of the record itself and of the record after the order holds of the record that the call gives
---   Keeps, order-keeps            every order but reset leaves setting, position and ports as they were
---   order-stays-sound, -ports     every order leaves a sound record sound, and the 128 ports
+--   Keeps, reset-only, order-keeps   every order but reset leaves setting, position and ports as they were
+--   order-stays-sound, -ports     every order leaves a sound record sound, and the array of ports as long as it was
 --   reset-is .. reset-bits        a unit after reset: at rest at port 0; each port's speed bits 000, its other control bits and its Device
 --                                 Status line kept
 --   stops, runs-on, runs-after    of a unit that runs: DOB and reset stop it, and no other order does
@@ -31,12 +31,12 @@ use Rattle.unit.specs.declared.mux.Mux.{Mux}
 use Rattle.unit.specs.Record.{noPort, portAt}
 use Rattle.unit.specs.Reply.{refused, accepted}
 use Rattle.unit.specs.Refusals.{refusal, ofUnit}
-use Rattle.unit.specs.Sound.{Sound, AllPorts}
+use Rattle.unit.specs.Sound.{Sound}
 use Rattle.unit.specs.laws.Sound.{sound-iff, sound-with}
 use Rattle.unit.specs.laws.Replies.{guarded-refused, guarded-accepted, either-way}
 use Rattle.processor.specs.declared.orders.Order.{Order}
 use Rattle.processor.specs.declared.orders.Order.the-variants.{Reset, Iopls, Start, Doc, Dob, Dia, Dias, Tick}
-use Rattle.processor.specs.Processor.{resetPort, switched, resetUnit, valueOf, after, order, stops}
+use Rattle.processor.specs.Processor.{resetPort, switched, resetUnit, valueOf, after, order, isReset, stops}
 
 -- ---- every order
 
@@ -95,16 +95,16 @@ reset-or-keeps u = each
     each Dias = inr (switches _ _ _ (Irqs.started-sound (u .irq)))
     each Tick = inr (switches _ _ _ (ticks (u .clock) (u .irq)))
 
--- the order is a reset
-abbrev pub isReset : Order → Bool
-isReset Reset = true
-isReset Iopls = false
-isReset Start = false
-isReset Doc = false
-isReset Dob = false
-isReset Dia = false
-isReset Dias = false
-isReset Tick = false
+-- reset is the one order that drops what is held
+pub reset-only : (o : Order) → isReset o ≡ true → o ≡ Reset
+reset-only Reset e = refl
+reset-only Iopls e = absurd (true≢false (sym e))
+reset-only Start e = absurd (true≢false (sym e))
+reset-only Doc e = absurd (true≢false (sym e))
+reset-only Dob e = absurd (true≢false (sym e))
+reset-only Dia e = absurd (true≢false (sym e))
+reset-only Dias e = absurd (true≢false (sym e))
+reset-only Tick e = absurd (true≢false (sym e))
 
 -- every order but reset keeps setting, position and ports
 pub order-keeps : (u : Mux) (o : Order) → isReset o ≡ false → Keeps u (order u o .mux)
@@ -127,14 +127,14 @@ order-stays-sound u o s = order-either Sound u o s (go (reset-or-keeps u o))
     go (inl r) = rw r (sound-with u (resetUnit u) refl (s .setting .size .some-port) (Irqs.cleared-sound (u .irq)) s)
     go (inr k) = keeps-sound u (after o u) k s
 
--- every order leaves the 128 ports
-pub order-ports : (u : Mux) (o : Order) → AllPorts u → AllPorts (order u o .mux)
+-- every order leaves the array of ports as long as it was
+pub order-ports : (u : Mux) (o : Order) → length (order u o .mux .port) ≡ length (u .port)
 unfolding after
-order-ports u o h = order-either AllPorts u o h (go (reset-or-keeps u o))
+order-ports u o = order-either (λ v. length (v .port) ≡ length (u .port)) u o refl (go (reset-or-keeps u o))
   where
-    go : (o ≡ Reset) ⊎ Keeps u (after o u) → AllPorts (after o u)
-    go (inl r) = rw r (length-map (u .port) resetPort ∙ h)
-    go (inr k) = ap length (k .port) ∙ h
+    go : (o ≡ Reset) ⊎ Keeps u (after o u) → length (after o u .port) ≡ length (u .port)
+    go (inl r) = rw r (length-map (u .port) resetPort)
+    go (inr k) = ap length (k .port)
 
 -- ---- reset
 
