@@ -2,12 +2,15 @@
 --   echoing             a port whose own echo fills its transmitter
 --   Real, real          a character that waited for four inspections is not served again by the fifth; an echo of the port's own keeps its
 --                       output waiting past the second bound
+--   exactly-P, exactly-kP       the bounds themselves are enough: P inspections, and (k+1)·P with k own turns to input
 --   heldDown .. key-held-down   a port at which one key is held down: a character that one of the same code and marks replaced is not broken off by a stop that comes later
 -- Not here: that it is served by the fourth inspection and not before, and by the first where the position is its port's, in calls, Examples.
 -- Assumes nothing.
 use mathlib.Core.Path.{_≡_, refl, _∙_, ap}
 use mathlib.Core.Bool.{false, true≢false}
 use mathlib.Core.List.{List, [], _∷_, _++_}
+use mathlib.Core.Logic.{_⊎_}
+use Prim.Native.Nat.{ℕ, _+_, _*_, _<_}
 use native.Mathlib.Omega.{arith}
 use lib.ListN.{getD, replicate, set}
 use Rattle.ground.specs.Choose.{bit}
@@ -23,7 +26,8 @@ use Rattle.calls.specs.Events.{Single, does, after, runSingles}
 use Rattle.calls.specs.Examples.{unitAfter, look, typed, clear, filling, waiting}
 use Rattle.calls.specs.laws.Examples.{everything}
 use Rattle.waiting.specs.Counting.{serviceAt, outputAt, unrefused, isArrival, bringsTo, takesAt}
-use Rattle.waiting.specs.Waiting.{Empty, Stops, Holds, turns, inputs, taken, Broken}
+use Rattle.waiting.specs.Waiting.{P, Running, Holds, Empty, Since, Takes, Stops, turns, inputs, taken, Served, Replaced, Broken, Handed, Echoed, OutputBroken}
+use Rattle.waiting.specs.laws.Proof.{demand}
 
 -- one port, its input automatic with echo, its buffer not near the end; its transmitter is empty, and a character has arrived
 abbrev pub echoing : World
@@ -45,6 +49,24 @@ pub record Real : Type 0 where
 pub real : Real
 unfolding everything serviceAt
 real = record { counted = refl; fifth = refl; empty = refl; both = refl; one = refl; full = refl; none = refl }
+
+-- ---- the bounds themselves are enough
+
+-- exactly P inspections
+pub exactly-P :
+    (v : World) (p : ℕ) (a : Single) (xs : List Single) → Since v → Running v → Takes p v a →
+    let w = after v a in let c = portAt (w .mux) p .ch in
+    (Broken p c w xs → ⊥) → turns w xs ≡ P w →
+    Served p c w xs ⊎ Replaced p c w xs
+exactly-P v p a xs s r t calm e = demand .first-bound v p a xs s r t calm (omega (arith, e))
+
+-- exactly (k+1)·P, where exactly k own turns went to input
+pub exactly-kP :
+    (w : World) (p : ℕ) (xs : List Single) → Running w → p < P w → Empty p w →
+    (Echoed p w xs → ⊥) → (OutputBroken p w xs → ⊥) → turns w xs ≡ (inputs p w xs + 1) * P w →
+    Handed p w xs
+exactly-kP w p xs r b e quiet calm n =
+    demand .second-bound w p (inputs p w xs) xs r b e (omega arith) quiet calm (omega (arith, n)) .0
 
 -- ---- a key held down
 
