@@ -1,13 +1,16 @@
--- The glottal stop in 7-bit ASCII mode (document 01, Input 1, 5 and 6). It is sent as the vertical bar, octal 174, which is special.
---   Placed, Automatic    a block in the host's memory; 7-bit ASCII automatic mode, INDONE clear as read, no error
---   Reported, special    a special code reaches the host by ICW and one interrupt, and by nothing else
---   glottal-stop         so the glottal stop is reported once, as octal 374, and never stored or echoed
+-- The glottal stop in 7-bit ASCII mode (document 01, Input 1, 4, 5 and 6). It is sent as the vertical bar, octal 174, which is special.
+--   Placed, Automatic    a block in the host's memory; 7-bit ASCII automatic mode, INDONE clear as read
+--   Told, Reported       a character reaches the host by ICW and one interrupt, and by nothing else
+--   special, with-error  so does a special code, with an error or without, and any code with an error
+--   Bar, glottal-stop    so the glottal stop is reported once, as octal 374 with its error code, and never stored or echoed
+--   glottal-stop-marked  also where it replaced a held character: it has the overload code
 --   Stored, ordinary     any other code is stored once, and ICW is left alone unless the character is done
 --   Replaced, replaced   a character that finds INDONE set replaces the one in ICW, and bit 7 says that one was lost
 --   glottal-stop-lost    so a glottal stop that the host did not take in time is lost, and the loss is marked
--- Not here: every other word and byte of the memory, in Kept; which codes are special, in words' Special.
+-- Not here: every other word and byte of the memory, in Kept; which codes are special, in words' Special; the glottal stop of an inspection, a
+-- sweep and a call, in laws/Glottal of scan, sweep and door.
 -- Assumes nothing.
-use mathlib.Core.Path.{_≡_, _∙_, ap, sym}
+use mathlib.Core.Path.{_≡_, _∙_, ap, refl, sym}
 use mathlib.Core.Bool.{Bool, true, false, not, _&&_, _||_}
 use mathlib.Core.List.{List}
 use mathlib.Core.Logic.{_≢_, _⊎_, inl, inr}
@@ -15,13 +18,13 @@ use Prim.Native.Nat.{ℕ, _+_, _/_, _%_, _<_, _≤_}
 use native.Mathlib.Omega.{arith}
 use lib.Dec.{eqb, lit<}
 use lib.ListN.{length, getD, set}
-use lib.Seq.{getD-set-same, getD-set-other}
+use lib.Seq.{getD-set-same}
+use borrow.Author.Tests.{ne-eqb}
 use Rattle.ground.specs.Choose.{pick, bit}
 use Rattle.ground.specs.laws.Rows.{pick-true, pick-false}
 use Rattle.words.specs.Field.{get}
-use Rattle.words.specs.Codes.{atICW, atIBP, atLIB, INDONE, INMO, inAuto, inEcho, ASCII, FLAGS, flagNone, NOT-ECHOED, SERVICE-OVERLOAD, CHARACTER, storedByte, wordByte, notEchoedBySpecial}
-use Rattle.words.specs.laws.Codes.{stored-fits}
-use Rattle.words.specs.Pointer.{atEnd}
+use Rattle.words.specs.Codes.{atICW, atIBP, INDONE, INMO, inAuto, inEcho, ASCII, FLAGS, flagNone, flagOverload, NOT-ECHOED, SERVICE-OVERLOAD, CHARACTER, storedByte, wordByte}
+use Rattle.words.specs.laws.Codes.{word-fits}
 use Rattle.words.specs.Byte.{byteAt, wordIf, byteIf}
 use Rattle.words.specs.laws.Byte.{length-wordIf, length-byteIf, other-word, other-word-of-byte, other-byte-of-word, read-word, read-byte}
 use Rattle.words.specs.Special.{isSpecial}
@@ -29,116 +32,146 @@ use Rattle.unit.specs.declared.mux.Port.{Port}
 use Rattle.unit.specs.Refusals.{WORDS}
 use Rattle.input.specs.declared.plan.Plan.{Plan}
 use Rattle.input.specs.Input.{errorCode, ascii, replacedICW, doneICW, replacedPlan, donePlan, storedPlan, inputPlan, carried, inputService}
-use Rattle.input.specs.laws.Word.{code-fits, done-character, done-mark, done-flags, done-ascii, done-done, replaced-character, replaced-overload, replaced-flags, replaced-done}
-use Rattle.input.specs.laws.Kept.{after, nextOf, kept-length}
-
--- ICW of the port whose block starts at the word a
-abbrev pub icwOf : List ℕ → ℕ → ℕ
-icwOf m a = getD m (a + atICW) 0
-
--- the next byte is the buffer's last
-abbrev pub lastOf : List ℕ → ℕ → Bool
-lastOf m a = atEnd (getD m (a + atIBP) 0) (getD m (a + atLIB) 0)
+use Rattle.input.specs.laws.Word.{code-fits, done-character, done-mark, done-flags, done-ascii, done-mode, done-overload, done-done, replaced-character, replaced-overload, replaced-flags, replaced-done}
+use Rattle.input.specs.laws.Kept.{icwOf, lastOf, codeOf, planOf, nextOf, after, kept-length, Unstored, not-taken, in-error, special-code, kept-unstored}
 
 -- the echo that the mode asks for finds the transmitter busy
 abbrev pub busyOf : List ℕ → ℕ → Port → Bool
 busyOf m a q = eqb (get INMO (icwOf m a)) inEcho && not (q .empty)
 
--- the error code of the held character
-abbrev pub codeOf : Port → ℕ
-codeOf q = errorCode (q .control) (q .ch)
-
--- the host's memory with a whole block at the word a, and a held character that is a byte
-pub record Placed (m : List ℕ) (a : ℕ) (q : Port) : Type 0 where
+-- the host's memory with a whole block at the word a
+pub record Placed (m : List ℕ) (a : ℕ) : Type 0 where
   pub words : length m ≡ WORDS
   pub inside : a + 8 ≤ WORDS
-  pub byte : q .ch .byte < 256
 
--- 7-bit ASCII automatic mode, with echo or without, INDONE clear as read, and a character with no error
-pub record Automatic (m : List ℕ) (a : ℕ) (q : Port) : Type 0 where
-  pub placed : Placed m a q
+-- 7-bit ASCII automatic mode, with echo or without, and INDONE clear as read
+pub record Automatic (m : List ℕ) (a : ℕ) : Type 0 where
   pub clear : get INDONE (icwOf m a) ≡ 0
   pub mode : (get INMO (icwOf m a) ≡ inAuto) ⊎ (get INMO (icwOf m a) ≡ inEcho)
   pub ascii : get ASCII (icwOf m a) ≡ 1
-  pub no-error : codeOf q ≡ flagNone
 
--- ---- the plan of such a character
+-- ---- the plan of a character in that mode
 
-abbrev planOf : List ℕ → ℕ → Port → Plan
-planOf m a q = inputPlan (icwOf m a) (codeOf q) (q .ch .byte) (lastOf m a) (isSpecial (q .ch .byte)) (q .empty)
-
--- step 5
+-- steps 4 and 5: neither sets the echo mark
 abbrev reportedPlan : List ℕ → ℕ → Port → Plan
-reportedPlan m a q = donePlan (icwOf m a) flagNone notEchoedBySpecial (q .ch .byte)
+reportedPlan m a q = donePlan (icwOf m a) (codeOf q) 0 (q .ch .byte)
 
 -- step 6
 abbrev bufferedPlan : List ℕ → ℕ → Port → Plan
 bufferedPlan m a q = storedPlan (icwOf m a) (q .ch .byte) (lastOf m a) (eqb (get INMO (icwOf m a)) inEcho) (q .empty)
 
--- steps 1 to 4 are passed
-automatic : (m : List ℕ) (a : ℕ) (q : Port) → Automatic m a q → planOf m a q ≡ pick (isSpecial (q .ch .byte)) (reportedPlan m a q) (bufferedPlan m a q)
+-- an error or a special code
+abbrev apart : Port → Bool
+apart q = not (eqb (codeOf q) flagNone) || isSpecial (q .ch .byte)
+
+both-ways : (s t : Bool) (p r : Plan) → pick s p (pick t p r) ≡ pick (s || t) p r
+unfolding pick
+both-ways true t p r = refl
+both-ways false t p r = refl
+
+-- steps 1 to 3 are passed
+automatic : (m : List ℕ) (a : ℕ) (q : Port) → Automatic m a → planOf m a q ≡ pick (apart q) (reportedPlan m a q) (bufferedPlan m a q)
 unfolding inputPlan ascii pick
-automatic m a q h = by (h .mode)
+automatic m a q h = by (h .mode) ∙ both-ways (not (eqb (codeOf q) flagNone)) (isSpecial (q .ch .byte)) (reportedPlan m a q) (bufferedPlan m a q)
   where
-    by : (get INMO (icwOf m a) ≡ inAuto) ⊎ (get INMO (icwOf m a) ≡ inEcho) → planOf m a q ≡ pick (isSpecial (q .ch .byte)) (reportedPlan m a q) (bufferedPlan m a q)
-    by (inl e) = simp (h .clear, e, h .ascii, h .no-error)
-    by (inr e) = simp (h .clear, e, h .ascii, h .no-error)
+    rest : Plan
+    rest = pick (not (eqb (codeOf q) flagNone)) (reportedPlan m a q) (pick (isSpecial (q .ch .byte)) (reportedPlan m a q) (bufferedPlan m a q))
+
+    by : (get INMO (icwOf m a) ≡ inAuto) ⊎ (get INMO (icwOf m a) ≡ inEcho) → planOf m a q ≡ rest
+    by (inl e) = simp (h .clear, e, h .ascii)
+    by (inr e) = simp (h .clear, e, h .ascii)
 
 -- the top bit becomes 1, in ICW and in the buffer
 top-bit : (icw c : ℕ) → get ASCII icw ≡ 1 → (wordByte (ascii icw) c ≡ 128 + c % 128) × (storedByte (ascii icw) c ≡ 128 + c % 128)
 unfolding wordByte storedByte ascii pick
 top-bit icw c e = (rw e, rw e)
 
--- ---- a service that writes ICW and no other word: ICW after it, and every other word
+-- ---- a service that writes ICW and no other word
 
-module _ (m : List ℕ) (a : ℕ) (q : Port) (w : ℕ) (e : after m a q ≡ set m (a + atICW) w) where
-  that-word : Placed m a q → icwOf (after m a q) a ≡ w
-  that-word h = rw e (getD-set-same m (a + atICW) w 0 (omega (arith, h .words, h .inside)))
+that-word : (m : List ℕ) (a : ℕ) (q : Port) (w : ℕ) → Placed m a → after m a q ≡ set m (a + atICW) w → icwOf (after m a q) a ≡ w
+that-word m a q w h e = rw e (getD-set-same m (a + atICW) w 0 (omega (arith, h .words, h .inside)))
 
-  other-words : (k : ℕ) → k ≢ a + atICW → getD (after m a q) k 0 ≡ getD m k 0
-  other-words k n = rw e (getD-set-other m (a + atICW) k w 0 n)
+-- ---- an error and a special code
 
--- ---- a special code
+-- the memory n is m but for ICW of the block at the word a, which tells the host of one character: its byte b, done, with that error code and
+-- no echo mark; the other bits of ICW are kept
+pub record Told (m n : List ℕ) (a code b : ℕ) : Type 0 where
+  pub character : get CHARACTER (icwOf n a) ≡ b
+  pub done : get INDONE (icwOf n a) ≡ 1
+  pub flags : get FLAGS (icwOf n a) ≡ code
+  pub no-mark : get NOT-ECHOED (icwOf n a) ≡ 0
+  pub same-ascii : get ASCII (icwOf n a) ≡ get ASCII (icwOf m a)
+  pub same-mode : get INMO (icwOf n a) ≡ get INMO (icwOf m a)
+  pub same-overload : get SERVICE-OVERLOAD (icwOf n a) ≡ get SERVICE-OVERLOAD (icwOf m a)
+  pub same-pointer : getD n (a + atIBP) 0 ≡ getD m (a + atIBP) 0
+  pub same-words : (k : ℕ) → k ≢ a + atICW → getD n k 0 ≡ getD m k 0
+  pub same-length : length n ≡ length m
 
--- the character reaches the host by ICW and one interrupt alone: as the byte b, with no echo and nothing stored
-pub record Reported (m : List ℕ) (a : ℕ) (q : Port) (b : ℕ) : Type 0 where
+-- the character reaches the host by ICW and one interrupt alone: with no echo and nothing stored
+pub record Reported (m : List ℕ) (a : ℕ) (q : Port) (code b : ℕ) : Type 0 where
   pub one-interrupt : inputService m a q .effect .raised ≡ true
   pub no-echo : inputService m a q .effect .sent ≡ false
-  pub character : get CHARACTER (icwOf (after m a q) a) ≡ b
-  pub done : get INDONE (icwOf (after m a q) a) ≡ 1
-  pub no-error : get FLAGS (icwOf (after m a q) a) ≡ flagNone
-  pub no-mark : get NOT-ECHOED (icwOf (after m a q) a) ≡ 0
-  pub same-mode : get ASCII (icwOf (after m a q) a) ≡ get ASCII (icwOf m a)
-  pub same-pointer : getD (after m a q) (a + atIBP) 0 ≡ getD m (a + atIBP) 0
-  pub same-words : (k : ℕ) → k ≢ a + atICW → getD (after m a q) k 0 ≡ getD m k 0
+  pub told : Told m (after m a q) a code b
 
--- a special code is reported, its top bit 1
-pub special : (m : List ℕ) (a : ℕ) (q : Port) → Automatic m a q → isSpecial (q .ch .byte) ≡ true → Reported m a q (128 + q .ch .byte % 128)
-unfolding inputService carried donePlan wordIf byteIf pick
-special m a q h s =
-    let icw = icwOf m a in
-    let c = q .ch .byte in
-    let w = doneICW icw flagNone notEchoedBySpecial c in
-    let planned = automatic m a q h ∙ pick-true (isSpecial c) (reportedPlan m a q) (bufferedPlan m a q) s in
-    let written : after m a q ≡ set m (a + atICW) w = ap (λ (p : Plan). carried p a (nextOf m a) m) planned in
-    let there = that-word m a q w written (h .placed) in
-    let b = h .placed .byte in
-    record {
-      one-interrupt = ap (λ (p : Plan). p .raised) planned;
-      no-echo = ap (λ (p : Plan). p .echo) planned;
-      character = ap (get CHARACTER) there ∙ done-character icw flagNone 0 c (lit< tt) (lit< tt) b ∙ top-bit icw c (h .ascii) .0;
-      done = ap (get INDONE) there ∙ done-done icw flagNone 0 c (lit< tt) (lit< tt) b;
-      no-error = ap (get FLAGS) there ∙ done-flags icw flagNone 0 c (lit< tt) (lit< tt) b;
-      no-mark = ap (get NOT-ECHOED) there ∙ done-mark icw flagNone 0 c (lit< tt) (lit< tt) b;
-      same-mode = ap (get ASCII) there ∙ done-ascii icw flagNone 0 c (lit< tt) (lit< tt) b;
-      same-pointer = other-words m a q w written (a + atIBP) (λ e. omega (arith, e));
-      same-words = other-words m a q w written;
-    }
+module _ (m : List ℕ) (a : ℕ) (q : Port) (placed : Placed m a) (h : Automatic m a) where
+  reported : apart q ≡ true → Unstored m a q → Reported m a q (codeOf q) (128 + q .ch .byte % 128)
+  unfolding inputService carried donePlan wordIf byteIf pick
+  reported t u =
+      let icw = icwOf m a in
+      let c = q .ch .byte in
+      let w = doneICW icw (codeOf q) 0 c in
+      let planned = automatic m a q h ∙ pick-true (apart q) (reportedPlan m a q) (bufferedPlan m a q) t in
+      let there = that-word m a q w placed (ap (λ (p : Plan). carried p a (nextOf m a) m) planned) in
+      let fits = code-fits (q .control) (q .ch) in
+      let byte = top-bit icw c (h .ascii) .0 in
+      let below : wordByte (ascii icw) c < 256 = omega (arith, byte) in
+      record {
+        one-interrupt = ap (λ (p : Plan). p .raised) planned;
+        no-echo = ap (λ (p : Plan). p .echo) planned;
+        told = record {
+          character = ap (get CHARACTER) there ∙ done-character icw (codeOf q) 0 c fits (lit< tt) below ∙ byte;
+          done = ap (get INDONE) there ∙ done-done icw (codeOf q) 0 c fits (lit< tt) below;
+          flags = ap (get FLAGS) there ∙ done-flags icw (codeOf q) 0 c fits (lit< tt) below;
+          no-mark = ap (get NOT-ECHOED) there ∙ done-mark icw (codeOf q) 0 c fits (lit< tt) below;
+          same-ascii = ap (get ASCII) there ∙ done-ascii icw (codeOf q) 0 c fits (lit< tt) below;
+          same-mode = ap (get INMO) there ∙ done-mode icw (codeOf q) 0 c fits (lit< tt) below;
+          same-overload = ap (get SERVICE-OVERLOAD) there ∙ done-overload icw (codeOf q) 0 c fits (lit< tt) below;
+          same-pointer = kept-unstored m a q (a + atIBP) u (λ e. omega (arith, e));
+          same-words = λ k. kept-unstored m a q k u;
+          same-length = kept-length m a q;
+        };
+      }
 
--- the glottal stop, low ascii bits octal 174: one interrupt, octal 374 in ICW, and nothing stored that would print it again
-pub glottal-stop : (m : List ℕ) (a : ℕ) (q : Port) → Automatic m a q → q .ch .byte % 128 ≡ 0o174 → Reported m a q 0o374
+  -- a special code is reported, its top bit 1, with its error code
+  pub special : isSpecial (q .ch .byte) ≡ true → Reported m a q (codeOf q) (128 + q .ch .byte % 128)
+  special s = reported (second (not (eqb (codeOf q) flagNone)) (isSpecial (q .ch .byte)) s) (special-code (h .ascii) s)
+    where
+      second : (s t : Bool) → t ≡ true → (s || t) ≡ true
+      second true t e = refl
+      second false t e = e
+
+  -- so is any code with an error
+  pub with-error : codeOf q ≢ flagNone → Reported m a q (codeOf q) (128 + q .ch .byte % 128)
+  with-error n = reported (rw (ne-eqb (codeOf q) flagNone n)) (in-error n)
+
+-- the port's character is the glottal stop, low ascii bits octal 174, and has that error code
+pub record Bar (q : Port) (code : ℕ) : Type 0 where
+  pub bar : q .ch .byte % 128 ≡ 0o174
+  pub coded : codeOf q ≡ code
+
+-- one interrupt, octal 374 in ICW with the error code, and nothing stored that would print it again
+pub glottal-stop : (m : List ℕ) (a : ℕ) (q : Port) (code : ℕ) → Placed m a → Automatic m a → Bar q code → Reported m a q code 0o374
 unfolding isSpecial
-glottal-stop m a q h e = rw e at (special m a q h (rw e))
+glottal-stop m a q code p h k = rw (k .bar, k .coded) at (special m a q p h (rw (k .bar)))
+
+-- a glottal stop that replaced a held character carries the mark
+pub bar-marked : (q : Port) → q .ch .byte % 128 ≡ 0o174 → q .ch .overload ≡ true → Bar q flagOverload
+unfolding errorCode pick
+bar-marked q e o = record { bar = e; coded = rw o }
+
+-- and is reported with the overload code; still neither stored nor echoed
+pub glottal-stop-marked : (m : List ℕ) (a : ℕ) (q : Port) → Placed m a → Automatic m a → q .ch .byte % 128 ≡ 0o174 → q .ch .overload ≡ true → Reported m a q flagOverload 0o374
+glottal-stop-marked m a q p h e o = glottal-stop m a q flagOverload p h (bar-marked q e o)
 
 -- ---- an ordinary code
 
@@ -152,14 +185,14 @@ pub record Stored (m : List ℕ) (a : ℕ) (q : Port) : Type 0 where
   pub done-icw : lastOf m a || busyOf m a q ≡ true → icwOf (after m a q) a ≡ doneICW (icwOf m a) flagNone (bit (busyOf m a q)) (q .ch .byte)
 
 -- a letter whose place in the buffer is not this port's ICW. Its place may be IBP: the byte is stored after the pointer, and is there.
-pub ordinary : (m : List ℕ) (a : ℕ) (q : Port) → Automatic m a q → isSpecial (q .ch .byte) ≡ false → nextOf m a / 2 ≢ a + atICW → Stored m a q
+pub ordinary : (m : List ℕ) (a : ℕ) (q : Port) → Placed m a → Automatic m a → codeOf q ≡ flagNone → isSpecial (q .ch .byte) ≡ false → nextOf m a / 2 ≢ a + atICW → Stored m a q
 unfolding inputService carried storedPlan wordIf pick
-ordinary m a q h s not-icw =
+ordinary m a q placed h n s not-icw =
     let c = q .ch .byte in
     let next = nextOf m a in
     let done = lastOf m a || busyOf m a q in
     let p = bufferedPlan m a q in
-    let planned = automatic m a q h ∙ pick-false (isSpecial c) (reportedPlan m a q) p s in
+    let planned = automatic m a q h ∙ pick-false (apart q) (reportedPlan m a q) p (rw (n, s)) in
     let written : after m a q ≡ carried p a next m = ap (λ (r : Plan). carried r a next m) planned in
     let pointed = wordIf true m (a + atIBP) next in
     let stored = byteIf true pointed next (p .byte) in
@@ -167,13 +200,13 @@ ordinary m a q h s not-icw =
       stored =
           ap (λ (r : List ℕ). byteAt r next) written
           ∙ other-byte-of-word done stored (a + atICW) (p .icw) next not-icw
-          ∙ read-byte pointed next (p .byte) (rw length-wordIf (omega (arith, h .placed .words))) (stored-fits (ascii (icwOf m a)) c (h .placed .byte))
+          ∙ read-byte pointed next (p .byte) (rw length-wordIf (omega (arith, placed .words))) (omega (arith, top-bit (icwOf m a) c (h .ascii) .1))
           ∙ top-bit (icwOf m a) c (h .ascii) .1;
       pointer = λ not-ibp.
           ap (λ (r : List ℕ). getD r (a + atIBP) 0) written
           ∙ other-word done stored (a + atICW) (p .icw) (a + atIBP) (λ e. omega (arith, e))
           ∙ other-word-of-byte true pointed next (p .byte) (a + atIBP) (λ e. not-ibp (sym e))
-          ∙ read-word m (a + atIBP) next (omega (arith, h .placed .words, h .placed .inside));
+          ∙ read-word m (a + atIBP) next (omega (arith, placed .words, placed .inside));
       interrupt = ap (λ (r : Plan). r .raised) planned;
       same-icw = λ quiet.
           ap (λ (r : List ℕ). getD r (a + atICW) 0) written
@@ -183,7 +216,7 @@ ordinary m a q h s not-icw =
       done-icw = λ full.
           ap (λ (r : List ℕ). getD r (a + atICW) 0) written
           ∙ ap (λ (t : Bool). getD (wordIf t stored (a + atICW) (p .icw)) (a + atICW) 0) full
-          ∙ read-word stored (a + atICW) (p .icw) (simp (length-byteIf, length-wordIf) (omega (arith, h .placed .words, h .placed .inside)));
+          ∙ read-word stored (a + atICW) (p .icw) (simp (length-byteIf, length-wordIf) (omega (arith, placed .words, placed .inside)));
     }
 
 -- ---- a character that comes while INDONE is set
@@ -198,31 +231,38 @@ pub record Replaced (m : List ℕ) (a : ℕ) (q : Port) : Type 0 where
   pub still-done : get INDONE (icwOf (after m a q) a) ≡ 1
   pub same-words : (k : ℕ) → k ≢ a + atICW → getD (after m a q) k 0 ≡ getD m k 0
 
-pub replaced : (m : List ℕ) (a : ℕ) (q : Port) → Placed m a q → get INDONE (icwOf m a) ≡ 1 → Replaced m a q
+-- the byte fits into ICW: it is a byte, or the mode makes it one
+abbrev Fits : List ℕ → ℕ → Port → Type 0
+Fits m a q = wordByte (ascii (icwOf m a)) (q .ch .byte) < 256
+
+takes : (m : List ℕ) (a : ℕ) (q : Port) → Placed m a → Fits m a q → get INDONE (icwOf m a) ≡ 1 → Replaced m a q
 unfolding inputService inputPlan replacedPlan carried wordIf byteIf pick
-replaced m a q h d =
+takes m a q h byte d =
     let icw = icwOf m a in
     let c = q .ch .byte in
     let w = replacedICW icw (codeOf q) c in
     let planned : planOf m a q ≡ replacedPlan icw (codeOf q) c = rw d in
-    let written : after m a q ≡ set m (a + atICW) w = ap (λ (p : Plan). carried p a (nextOf m a) m) planned in
-    let there = that-word m a q w written h in
+    let there = that-word m a q w h (ap (λ (p : Plan). carried p a (nextOf m a) m) planned) in
     let fits = code-fits (q .control) (q .ch) in
     record {
       no-interrupt = ap (λ (p : Plan). p .raised) planned;
       no-echo = ap (λ (p : Plan). p .echo) planned;
-      character = ap (get CHARACTER) there ∙ replaced-character icw (codeOf q) c fits (h .byte);
-      lost-one = ap (get SERVICE-OVERLOAD) there ∙ replaced-overload icw (codeOf q) c fits (h .byte);
-      flags = ap (get FLAGS) there ∙ replaced-flags icw (codeOf q) c fits (h .byte);
-      still-done = ap (get INDONE) there ∙ replaced-done icw (codeOf q) c fits (h .byte) ∙ d;
-      same-words = other-words m a q w written;
+      character = ap (get CHARACTER) there ∙ replaced-character icw (codeOf q) c fits byte;
+      lost-one = ap (get SERVICE-OVERLOAD) there ∙ replaced-overload icw (codeOf q) c fits byte;
+      flags = ap (get FLAGS) there ∙ replaced-flags icw (codeOf q) c fits byte;
+      still-done = ap (get INDONE) there ∙ replaced-done icw (codeOf q) c fits byte ∙ d;
+      same-words = λ k. kept-unstored m a q k (not-taken d);
     }
+
+pub replaced : (m : List ℕ) (a : ℕ) (q : Port) → Placed m a → q .ch .byte < 256 → get INDONE (icwOf m a) ≡ 1 → Replaced m a q
+replaced m a q h byte d = takes m a q h (word-fits (ascii (icwOf m a)) (q .ch .byte) byte) d
 
 -- the next character of a port whose glottal stop the host has not taken: it stands in ICW in its place, top bit 1, and bit 7 is the mark
 -- that one was lost
-pub glottal-stop-lost : (m : List ℕ) (a : ℕ) (q r : Port) → Automatic m a q → q .ch .byte % 128 ≡ 0o174 → r .ch .byte < 256 → Replaced (after m a q) a r × (get CHARACTER (icwOf (after (after m a q) a r) a) ≡ 128 + r .ch .byte % 128)
-glottal-stop-lost m a q r h e b =
-    let reported = glottal-stop m a q h e in
-    let placed : Placed (after m a q) a r = record { words = kept-length m a q ∙ h .placed .words; inside = h .placed .inside; byte = b } in
-    let next = replaced (after m a q) a r placed (reported .done) in
-    (next, next .character ∙ top-bit (icwOf (after m a q) a) (r .ch .byte) (reported .same-mode ∙ h .ascii) .0)
+pub glottal-stop-lost : (m : List ℕ) (a : ℕ) (q r : Port) (code : ℕ) → Placed m a → Automatic m a → Bar q code → Replaced (after m a q) a r × (get CHARACTER (icwOf (after (after m a q) a r) a) ≡ 128 + r .ch .byte % 128)
+glottal-stop-lost m a q r code p h k =
+    let told = glottal-stop m a q code p h k .told in
+    let byte = top-bit (icwOf (after m a q) a) (r .ch .byte) (told .same-ascii ∙ h .ascii) .0 in
+    let there : Placed (after m a q) a = record { words = told .same-length ∙ p .words; inside = p .inside } in
+    let next = takes (after m a q) a r there (omega (arith, byte)) (told .done) in
+    (next, next .character ∙ byte)

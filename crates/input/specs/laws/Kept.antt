@@ -2,27 +2,49 @@
 --   kept-length   the memory keeps its length
 --   kept-word     every word is as it was but ICW, IBP and the word that holds the buffer's byte
 --   kept-byte     every byte is as it was but those of ICW and IBP and the one stored: of its word the other half is kept
+--   kept-planned  where the plan stores no byte, every word but ICW is as it was
+--   Unstored      steps 1 to 5, each by its own condition: the character does not go to the buffer
+--   kept-unstored so every word but ICW is as it was
+--   kept-dropped  and where the mode asks for no input, the whole memory is
 -- Not here: what the words that may change become, in Word and Glottal; the port's own changes, in scan.
 -- Assumes nothing.
-use mathlib.Core.Path.{_≡_}
+use mathlib.Core.Path.{_≡_, _∙_, ap, refl}
 use mathlib.Core.Bool.{Bool, true, false, not, _&&_}
 use mathlib.Core.List.{List}
 use mathlib.Core.Logic.{_≢_}
 use Prim.Native.Nat.{ℕ, _+_, _/_, _<_}
 use lib.Dec.{eqb, lit<}
 use lib.ListN.{length, getD}
+use borrow.Author.Tests.{ne-eqb}
 use Rattle.ground.specs.Choose.{pick}
 use Rattle.words.specs.Field.{get}
-use Rattle.words.specs.Codes.{atICW, atIBP, INDONE, INMO, inNone, inSingle, flagNone}
+use Rattle.words.specs.Codes.{atICW, atIBP, atLIB, INDONE, INMO, inNone, inSingle, ASCII, flagNone}
 use Rattle.words.specs.laws.Codes.{stored-fits}
-use Rattle.words.specs.Pointer.{stepPtr}
-use Rattle.words.specs.Byte.{byteAt}
+use Rattle.words.specs.Pointer.{stepPtr, atEnd}
+use Rattle.words.specs.Byte.{byteAt, wordIf, byteIf}
 use Rattle.words.specs.laws.Byte.{length-wordIf, length-byteIf, other-word, other-word-of-byte, other-byte, other-byte-of-word}
+use Rattle.words.specs.Special.{isSpecial}
 use Rattle.unit.specs.declared.mux.Port.{Port}
 use Rattle.input.specs.declared.plan.Plan.{Plan}
-use Rattle.input.specs.Input.{ascii, inputPlan, replacedPlan, donePlan, storedPlan, carried, inputService}
+use Rattle.input.specs.Input.{errorCode, ascii, inputPlan, replacedPlan, droppedPlan, donePlan, storedPlan, carried, inputService}
 
--- the pointer of the buffer's next byte, of a port whose block starts at the word a
+-- ICW of the port whose block starts at the word a
+abbrev pub icwOf : List ℕ → ℕ → ℕ
+icwOf m a = getD m (a + atICW) 0
+
+-- the next byte is the buffer's last
+abbrev pub lastOf : List ℕ → ℕ → Bool
+lastOf m a = atEnd (getD m (a + atIBP) 0) (getD m (a + atLIB) 0)
+
+-- the error code of the held character
+abbrev pub codeOf : Port → ℕ
+codeOf q = errorCode (q .control) (q .ch)
+
+-- what the service does with it
+abbrev pub planOf : List ℕ → ℕ → Port → Plan
+planOf m a q = inputPlan (icwOf m a) (codeOf q) (q .ch .byte) (lastOf m a) (isSpecial (q .ch .byte)) (q .empty)
+
+-- the pointer of the buffer's next byte
 abbrev pub nextOf : List ℕ → ℕ → ℕ
 nextOf m a = stepPtr (getD m (a + atIBP) 0)
 
@@ -44,21 +66,32 @@ stores-byte : (p : Plan) (a next : ℕ) (m : List ℕ) (r : ℕ) → p .byte < 2
 unfolding carried
 stores-byte p a next m r h i b n = simp (other-byte-of-word, other-byte)
 
--- ---- the byte of a plan is a byte
+-- where the plan stores no byte, it leaves every word but ICW
+stores-none : (p : Plan) (a next : ℕ) (m : List ℕ) (k : ℕ) → p .store ≡ false → k ≢ a + atICW → getD (carried p a next m) k 0 ≡ getD m k 0
+unfolding carried wordIf byteIf pick
+stores-none p a next m k e i =
+    let stored : Bool → List ℕ = λ t. byteIf t (wordIf t m (a + atIBP) next) next (p .byte) in
+    other-word (p .write) (stored (p .store)) (a + atICW) (p .icw) k i ∙ ap (λ (t : Bool). getD (stored t) k 0) e
 
-either : (t : Bool) (p r : Plan) → p .byte < 256 → r .byte < 256 → pick t p r .byte < 256
+-- ---- of every branch of the plan
+
+either : (C : Plan → Type 0) (t : Bool) (p r : Plan) → C p → C r → C (pick t p r)
 unfolding pick
-either true p r h k = h
-either false p r h k = k
+either C true p r h k = h
+either C false p r h k = k
+
+-- its byte is a byte
+abbrev Fits : Plan → Type 0
+Fits p = p .byte < 256
 
 plan-byte : (icw code c : ℕ) (last special empty : Bool) → c < 256 → inputPlan icw code c last special empty .byte < 256
 unfolding inputPlan replacedPlan donePlan storedPlan
 plan-byte icw code c last special empty h =
-    either (eqb (get INDONE icw) 1) _ _ (lit< tt)
-    (either (eqb (get INMO icw) inNone) _ _ (lit< tt)
-    (either (eqb (get INMO icw) inSingle) _ _ (lit< tt)
-    (either (not (eqb code flagNone)) _ _ (lit< tt)
-    (either (ascii icw && special) _ _ (lit< tt) (stored-fits (ascii icw) c h)))))
+    either Fits (eqb (get INDONE icw) 1) _ _ (lit< tt)
+    (either Fits (eqb (get INMO icw) inNone) _ _ (lit< tt)
+    (either Fits (eqb (get INMO icw) inSingle) _ _ (lit< tt)
+    (either Fits (not (eqb code flagNone)) _ _ (lit< tt)
+    (either Fits (ascii icw && special) _ _ (lit< tt) (stored-fits (ascii icw) c h)))))
 
 -- ---- the service
 
@@ -76,3 +109,48 @@ kept-word m a q k i b n = stores-word _ a (nextOf m a) m k i b n
 pub kept-byte : (m : List ℕ) (a : ℕ) (q : Port) (r : ℕ) → q .ch .byte < 256 → r / 2 ≢ a + atICW → r / 2 ≢ a + atIBP → r ≢ nextOf m a → byteAt (after m a q) r ≡ byteAt m r
 unfolding inputService
 kept-byte m a q r h i b n = stores-byte _ a (nextOf m a) m r (plan-byte _ _ (q .ch .byte) _ _ _ h) i b n
+
+-- ---- a character that does not go to the buffer
+
+-- where the plan stores no byte, every word but ICW is as it was
+pub kept-planned : (m : List ℕ) (a : ℕ) (q : Port) (k : ℕ) → planOf m a q .store ≡ false → k ≢ a + atICW → getD (after m a q) k 0 ≡ getD m k 0
+unfolding inputService
+kept-planned m a q k e i = stores-none (planOf m a q) a (nextOf m a) m k e i
+
+-- steps 1 to 5 in order, each by its own condition as the plan reads it; none asks that those before it were passed
+pub data Unstored (m : List ℕ) (a : ℕ) (q : Port) : Type 0 where
+  not-taken : get INDONE (icwOf m a) ≡ 1 → Unstored m a q
+  no-input : get INMO (icwOf m a) ≡ inNone → Unstored m a q
+  single : get INMO (icwOf m a) ≡ inSingle → Unstored m a q
+  in-error : codeOf q ≢ flagNone → Unstored m a q
+  special-code : get ASCII (icwOf m a) ≡ 1 → isSpecial (q .ch .byte) ≡ true → Unstored m a q
+
+-- a plan that stores no byte
+abbrev Leaves : Plan → Type 0
+Leaves p = p .store ≡ false
+
+pub plan-leaves : (m : List ℕ) (a : ℕ) (q : Port) → Unstored m a q → planOf m a q .store ≡ false
+unfolding inputPlan replacedPlan donePlan ascii pick
+plan-leaves m a q (not-taken e) = rw e
+plan-leaves m a q (no-input e) = either Leaves (eqb (get INDONE (icwOf m a)) 1) _ _ refl (rw e)
+plan-leaves m a q (single e) = either Leaves (eqb (get INDONE (icwOf m a)) 1) _ _ refl (rw e)
+plan-leaves m a q (in-error n) =
+    either Leaves (eqb (get INDONE (icwOf m a)) 1) _ _ refl
+    (either Leaves (eqb (get INMO (icwOf m a)) inNone) _ _ refl
+    (either Leaves (eqb (get INMO (icwOf m a)) inSingle) _ _ refl (rw (ne-eqb (codeOf q) flagNone n))))
+plan-leaves m a q (special-code e s) =
+    either Leaves (eqb (get INDONE (icwOf m a)) 1) _ _ refl
+    (either Leaves (eqb (get INMO (icwOf m a)) inNone) _ _ refl
+    (either Leaves (eqb (get INMO (icwOf m a)) inSingle) _ _ refl
+    (either Leaves (not (eqb (codeOf q) flagNone)) _ _ refl (rw (e, s)))))
+
+-- in each of them every word but ICW is as it was
+pub kept-unstored : (m : List ℕ) (a : ℕ) (q : Port) (k : ℕ) → Unstored m a q → k ≢ a + atICW → getD (after m a q) k 0 ≡ getD m k 0
+kept-unstored m a q k h i = kept-planned m a q k (plan-leaves m a q h) i
+
+-- INDONE clear and a mode that asks for no input: not a word changes
+pub kept-dropped : (m : List ℕ) (a : ℕ) (q : Port) → get INDONE (icwOf m a) ≡ 0 → get INMO (icwOf m a) ≡ inNone → after m a q ≡ m
+unfolding inputService inputPlan carried wordIf byteIf pick
+kept-dropped m a q d e =
+    let dropped : planOf m a q ≡ droppedPlan = rw (d, e) in
+    ap (λ (p : Plan). carried p a (nextOf m a) m) dropped

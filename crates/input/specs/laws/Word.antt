@@ -12,8 +12,7 @@ use Rattle.ground.specs.Choose.{pick}
 use Rattle.words.specs.declared.field.Field.{Field}
 use Rattle.words.specs.Field.{get, put}
 use Rattle.words.specs.laws.Field.{whole, get-put, get-put-above, get-put-below}
-use Rattle.words.specs.Codes.{INDONE, ASCII, FLAGS, flagNone, flagParity, flagOverload, flagBreak, NOT-ECHOED, SERVICE-OVERLOAD, CHARACTER, PARITY-INHIBIT, wordByte}
-use Rattle.words.specs.laws.Codes.{word-fits}
+use Rattle.words.specs.Codes.{INDONE, INMO, ASCII, FLAGS, flagNone, flagParity, flagOverload, flagBreak, NOT-ECHOED, SERVICE-OVERLOAD, CHARACTER, PARITY-INHIBIT, wordByte}
 use Rattle.unit.specs.declared.mux.Character.{Character}
 use Rattle.input.specs.Input.{errorCode, ascii, replacedICW, doneICW}
 
@@ -28,13 +27,13 @@ code-fits control ch = by (ch .overload) (ch .brk) (ch .parity && eqb (get PARIT
     by false false false = lit< tt
 
 -- the character is put in last, and moves no field above its own
-beside : (g : Field) (k icw w c : ℕ) → c < 256 → g .unit ≡ CHARACTER .unit * CHARACTER .span * k → get g (put CHARACTER (wordByte (ascii icw) c) w) ≡ get g w
-beside g k icw w c byte e = get-put-above CHARACTER g k _ w e (whole CHARACTER tt tt refl) (word-fits (ascii icw) c byte)
+beside : (g : Field) (k icw w c : ℕ) → wordByte (ascii icw) c < 256 → g .unit ≡ CHARACTER .unit * CHARACTER .span * k → get g (put CHARACTER (wordByte (ascii icw) c) w) ≡ get g w
+beside g k icw w c byte e = get-put-above CHARACTER g k _ w e (whole CHARACTER tt tt refl) byte
 
-module _ (icw code mark c : ℕ) (code-below : code < 4) (mark-below : mark < 2) (byte : c < 256) where
+module _ (icw code mark c : ℕ) (code-below : code < 4) (mark-below : mark < 2) (byte : wordByte (ascii icw) c < 256) where
   pub done-character : get CHARACTER (doneICW icw code mark c) ≡ wordByte (ascii icw) c
   unfolding doneICW
-  done-character = get-put CHARACTER _ _ (whole CHARACTER tt tt refl) (word-fits (ascii icw) c byte)
+  done-character = get-put CHARACTER _ _ (whole CHARACTER tt tt refl) byte
 
   pub done-mark : get NOT-ECHOED (doneICW icw code mark c) ≡ mark
   unfolding doneICW
@@ -57,6 +56,22 @@ module _ (icw code mark c : ℕ) (code-below : code < 4) (mark-below : mark < 2)
       ∙ get-put-above FLAGS ASCII 1 code _ refl (whole FLAGS tt tt refl) code-below
       ∙ get-put-below INDONE ASCII 4 1 icw refl (whole ASCII tt tt refl)
 
+  pub done-mode : get INMO (doneICW icw code mark c) ≡ get INMO icw
+  unfolding doneICW
+  done-mode =
+      beside INMO 32 _ _ c byte refl
+      ∙ get-put-above NOT-ECHOED INMO 8 mark _ refl (whole NOT-ECHOED tt tt refl) mark-below
+      ∙ get-put-above FLAGS INMO 2 code _ refl (whole FLAGS tt tt refl) code-below
+      ∙ get-put-below INDONE INMO 1 1 icw refl (whole INMO tt tt refl)
+
+  pub done-overload : get SERVICE-OVERLOAD (doneICW icw code mark c) ≡ get SERVICE-OVERLOAD icw
+  unfolding doneICW
+  done-overload =
+      beside SERVICE-OVERLOAD 1 _ _ c byte refl
+      ∙ get-put-below NOT-ECHOED SERVICE-OVERLOAD 1 mark _ refl (whole SERVICE-OVERLOAD tt tt refl)
+      ∙ get-put-below FLAGS SERVICE-OVERLOAD 2 code _ refl (whole SERVICE-OVERLOAD tt tt refl)
+      ∙ get-put-below INDONE SERVICE-OVERLOAD 64 1 icw refl (whole SERVICE-OVERLOAD tt tt refl)
+
   pub done-done : get INDONE (doneICW icw code mark c) ≡ 1
   unfolding doneICW
   done-done =
@@ -65,10 +80,10 @@ module _ (icw code mark c : ℕ) (code-below : code < 4) (mark-below : mark < 2)
       ∙ get-put-above FLAGS INDONE 8 code _ refl (whole FLAGS tt tt refl) code-below
       ∙ get-put INDONE 1 icw (whole INDONE tt tt refl) (lit< tt)
 
-module _ (icw code c : ℕ) (code-below : code < 4) (byte : c < 256) where
+module _ (icw code c : ℕ) (code-below : code < 4) (byte : wordByte (ascii icw) c < 256) where
   pub replaced-character : get CHARACTER (replacedICW icw code c) ≡ wordByte (ascii icw) c
   unfolding replacedICW
-  replaced-character = get-put CHARACTER _ _ (whole CHARACTER tt tt refl) (word-fits (ascii icw) c byte)
+  replaced-character = get-put CHARACTER _ _ (whole CHARACTER tt tt refl) byte
 
   pub replaced-overload : get SERVICE-OVERLOAD (replacedICW icw code c) ≡ 1
   unfolding replacedICW
