@@ -1,3 +1,5 @@
 -- What follows from the definitions of one inspection. Nothing here need be believed.
---   Scan   which inspection is a turn, which turn it is, and what a turn does and keeps
+--   Scan      which inspection is a turn, which turn it is, and what a turn does and keeps
+--   Glottal   the glottal stop at an inspection
 pub mod Scan
+pub mod Glottal

@@ -4,10 +4,10 @@
 --   setup-places       and a setup that is not refused gives them
 -- Not here: what an array past its end answers, in unit, laws/Ports.
 -- Assumes nothing.
-use mathlib.Core.Path.{_≡_, refl, _∙_, ap}
+use mathlib.Core.Path.{_≡_, refl, _∙_}
 use mathlib.Core.Logic.{_⊎_, inl, inr}
 use native.Mathlib.Decide.{ℕ-discrete}
-use lib.ListN.{length, length-set, length-replicate}
+use lib.ListN.{length, length-replicate}
 use borrow.Author.Tests.{ne-eqb}
 use Rattle.ground.specs.Choose.{pick}
 use Rattle.unit.specs.declared.mux.Setting.{Setting}
@@ -16,9 +16,9 @@ use Rattle.unit.specs.Reply.{World}
 use Rattle.unit.specs.Refusals.{refusal, ofSetup}
 use Rattle.unit.specs.Sound.{AllPorts}
 use Rattle.unit.specs.laws.Replies.{setup-accepted, setup-refused}
-use Rattle.lines.specs.laws.Lines.{line-either}
+use Rattle.lines.specs.laws.Lines.{line-ports}
 use Rattle.processor.specs.laws.Processor.{order-ports}
-use Rattle.scan.specs.laws.Scan.{Kind, takes-turn, stands-still, kind, scan-moves}
+use Rattle.scan.specs.laws.Scan.{inspection-ports}
 use Rattle.calls.specs.declared.call.Act.the-variants.{Line, Processor, Inspect}
 use Rattle.calls.specs.Calls.{setUp, performed}
 use Rattle.calls.specs.Events.{Single, setsUp, does, writes, result, after}
@@ -36,14 +36,9 @@ single-places w (setsUp s) = go (ℕ-discrete (refusal (ofSetup s)) 0)
     go : Dec (refusal (ofSetup s) ≡ 0) → (length (after w (setsUp s) .mux .port) ≡ length (w .mux .port)) ⊎ AllPorts (after w (setsUp s) .mux)
     go (yes z) = inr (setup-places w s z)
     go (no h) = inl (rw (setup-refused s h, ne-eqb (refusal (ofSetup s)) 0 h))
-single-places w (does (Line p e)) =
-    inl (line-either (λ v. length (v .port) ≡ length (w .mux .port)) (w .mux) p e refl (length-set (w .mux .port) p _))
+single-places w (does (Line p e)) = inl (line-ports (w .mux) p e)
 single-places w (does (Processor o)) = inl (order-ports (w .mux) o)
-single-places w (does Inspect) = inl (go (kind (w .mux) (w .memory)))
-  where
-    go : Kind (w .mux) (w .memory) → length (after w (does Inspect) .mux .port) ≡ length (w .mux .port)
-    go (takes-turn e s t) = ap (λ l. length (l .world .mux .port)) t ∙ scan-moves (w .mux) (w .memory) .ports
-    go (stands-still k e t) = ap (λ l. length (l .world .mux .port)) t
+single-places w (does Inspect) = inl (inspection-ports (w .mux) (w .memory))
 single-places w (writes m) = inl refl
 
 -- whoever has the 128 places keeps them

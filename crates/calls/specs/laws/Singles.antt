@@ -21,8 +21,7 @@ use Rattle.unit.specs.Reply.{World, world}
 use Rattle.unit.specs.Refusals.{WORDS, refusal, ofSweep}
 use Rattle.unit.specs.Sound.{Sound}
 use Rattle.unit.specs.laws.Sound.{sweep-iff}
-use Rattle.scan.specs.Scan.{scanned}
-use Rattle.scan.specs.laws.Scan.{sound-scans, scan-moves, moves-sound}
+use Rattle.scan.specs.laws.Scan.{sound-scans, scan-moves, inspection-sound}
 use Rattle.sweep.specs.Sweep.{Going, going, setOut, sweep}
 use Rattle.sweep.specs.laws.Sweep.{look, Looks, none, last, more, sweeps, sweep-refused, sweep-accepted}
 use Rattle.calls.specs.declared.call.Act.the-variants.{Inspect}
@@ -63,11 +62,9 @@ look-counts s h r = rw (sound-scans (s .mux) (s .memory) (h .sound) r (h .words)
 look-ready : (s : Going) → Ready s → s .mux .runs ≡ true → Ready (going s (look s))
 unfolding going
 look-ready s h r =
-    let e = sound-scans (s .mux) (s .memory) (h .sound) r (h .words) in
-    let t = scan-moves (s .mux) (s .memory) in
     record {
-      sound = rw e (moves-sound (s .mux) (s .memory) (scanned (s .mux) (s .memory)) t (h .sound));
-      words = rw e (t .words ∙ h .words);
+      sound = inspection-sound (s .mux) (s .memory) (h .sound);
+      words = rw (sound-scans (s .mux) (s .memory) (h .sound) r (h .words)) (scan-moves (s .mux) (s .memory) .words ∙ h .words);
     }
 
 -- each of them counts

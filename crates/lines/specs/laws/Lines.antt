@@ -2,11 +2,11 @@
 --   line-refused, line-accepted      a call that is refused, and one that is not
 --   line-either                  what holds of the record itself and of the record with its port written holds after the call
 --   line-keeps, line-sound       every other port and the rest of the record are as they were; a sound record stays sound
---   line-ports                   the record keeps its 128 ports
+--   line-ports                   the array of ports is as long as it was
 --   line-port, line-written      the port that the signal came to
---   arrived, replaced            what is held after an arrival; a character that replaces a held one carries the overload mark
---   emptied, changed             the port after "transmitter empty" and after a Device Status change
---   emptied-only, status-only    and that nothing else of it changes
+--   arrived, emptied, changed    the port after an arrival, after "transmitter empty" and after a Device Status change
+--   arrived-only, emptied-only, status-only   and that nothing else of it changes
+--   replaced                     a character that replaces a held one, marked or not, is held and carries the overload mark
 --   emptied-again                "transmitter empty" does nothing on an empty buffer
 -- Not here: that a refused call answers its number, in unit, laws/Replies; how long a held character waits, in waiting.
 -- Assumes nothing.
@@ -15,12 +15,13 @@ use mathlib.Core.Bool.{Bool, true}
 use mathlib.Core.Logic.{_⊎_, inr}
 use Prim.Native.Nat.{ℕ, _<_}
 use lib.ListN.{length, length-set}
+use Rattle.words.specs.Length.{cut}
 use Rattle.unit.specs.declared.mux.Port.{Port}
 use Rattle.unit.specs.declared.mux.Mux.{Mux}
 use Rattle.unit.specs.Record.{portAt, withPort}
 use Rattle.unit.specs.Reply.{refused, accepted}
 use Rattle.unit.specs.Refusals.{refusal, ofPort}
-use Rattle.unit.specs.Sound.{Sound, AllPorts}
+use Rattle.unit.specs.Sound.{Sound}
 use Rattle.unit.specs.laws.Sound.{sound-with}
 use Rattle.unit.specs.laws.Replies.{guarded-refused, guarded-accepted, either-way}
 use Rattle.unit.specs.laws.Ports.{OnlyPort, only-port, held-inside, port-same, port-written}
@@ -56,9 +57,9 @@ line-keeps u p e = line-either (OnlyPort p u) u p e same (only-port u p _)
 pub line-sound : (u : Mux) (p : ℕ) (e : Signal) → Sound u → Sound (line u p e .mux)
 line-sound u p e s = line-either Sound u p e s (sound-with u _ refl (s .position) (λ i. i) s)
 
--- the record keeps its 128 ports
-pub line-ports : (u : Mux) (p : ℕ) (e : Signal) → AllPorts u → AllPorts (line u p e .mux)
-line-ports u p e h = line-either AllPorts u p e h (length-set (u .port) p _ ∙ h)
+-- the array of ports is as long as it was
+pub line-ports : (u : Mux) (p : ℕ) (e : Signal) → length (line u p e .mux .port) ≡ length (u .port)
+line-ports u p e = line-either (λ v. length (v .port) ≡ length (u .port)) u p e refl (length-set (u .port) p _)
 
 -- the port p after a signal that is not refused
 pub line-port : (u : Mux) (p : ℕ) (e : Signal) → refusal (ofPort u p) ≡ 0 → p < length (u .port) → portAt (line u p e .mux) p ≡ signalled (portAt u p) e
@@ -76,6 +77,33 @@ pub arrived : (u : Mux) (p c : ℕ) (parity brk : Bool) → refusal (ofPort u p)
 unfolding signalled
 arrived u p c parity brk z h = line-port u p (Arrival c parity brk) z h
 
+-- the character c, cut to the port's length, is held with its own parity and break marks, and with the overload mark where one was held
+-- before; nothing else of the port has changed
+pub record CharacterOnly (q : Port) (c : ℕ) (parity brk : Bool) (r : Port) : Type 0 where
+  pub held : r .held ≡ true
+  pub byte : r .ch .byte ≡ cut (q .control) c
+  pub parity-mark : r .ch .parity ≡ parity
+  pub break-mark : r .ch .brk ≡ brk
+  pub overload-mark : r .ch .overload ≡ q .held
+  pub empty : r .empty ≡ q .empty
+  pub control : r .control ≡ q .control
+  pub devcontrol : r .devcontrol ≡ q .devcontrol
+  pub devstatus : r .devstatus ≡ q .devstatus
+
+pub arrived-only : (q : Port) (c : ℕ) (parity brk : Bool) → CharacterOnly q c parity brk (arrivedPort q c parity brk)
+arrived-only q c parity brk =
+    record {
+      held = refl;
+      byte = refl;
+      parity-mark = refl;
+      break-mark = refl;
+      overload-mark = refl;
+      empty = refl;
+      control = refl;
+      devcontrol = refl;
+      devstatus = refl;
+    }
+
 -- a character that is held, and carries the overload mark
 pub record Marked (q : Port) : Type 0 where
   pub held : q .held ≡ true
@@ -84,7 +112,8 @@ pub record Marked (q : Port) : Type 0 where
 -- a character that arrives where one is held replaces it and carries the mark
 pub replaced : (u : Mux) (p c : ℕ) (parity brk : Bool) → portAt u p .held ≡ true → refusal (ofPort u p) ≡ 0 → Marked (portAt (line u p (Arrival c parity brk) .mux) p)
 replaced u p c parity brk k z =
-    rw (arrived u p c parity brk z (held-inside u p k)) (record { held = refl; mark = k })
+    let only = arrived-only (portAt u p) c parity brk in
+    rw (arrived u p c parity brk z (held-inside u p k)) (record { held = only .held; mark = only .overload-mark ∙ k })
 
 -- ---- "transmitter empty"
 

@@ -5,7 +5,10 @@
 --   Does, turn-does             what every turn of a port does, over what it reads
 --   Moves, scan-moves           what every inspection that is a turn does: no refusal, its port named, the position one on, the rest kept
 --   moves-sound, answer-names   the record is sound again; an answer other than "nothing" names its port
+--   inspection-either           what holds of the record itself and of the record after a turn holds after any inspection
+--   inspection-runs .. -ports   so the unit runs on or stands, a sound record stays sound, and the array of ports is as long as it was
 --   turn-takes, service-empty   after its turn a port holds nothing; after a service the transmitter is as it was unless a byte was handed to it
+--   service-sent, inspection-sent   a byte that was handed over, echo or output, leaves the transmitter not empty
 -- Not here: what a turn is, in specs/Turn; what a service does to the memory, in laws/Kept of input and of output; bounds on waiting, in waiting.
 -- Assumes nothing.
 use mathlib.Core.Path.{_≡_, refl, ap, sym, _∙_}
@@ -15,7 +18,6 @@ use mathlib.Core.Logic.{_⊎_, inl, inr}
 use Prim.Native.Nat.{ℕ, _+_, _%_, _<_}
 use native.Mathlib.Nat.{mod-lt}
 use native.Mathlib.Decide.{ℕ-discrete}
-use lib.Dec.{eqb}
 use lib.ListN.{length, length-set}
 use borrow.Author.Tests.{ne-eqb}
 use Rattle.ground.specs.Choose.{pick}
@@ -27,14 +29,13 @@ use Rattle.interrupt.specs.laws.Interrupt.{raised-sound}
 use Rattle.unit.specs.declared.mux.Setting.{Setting}
 use Rattle.unit.specs.declared.mux.Port.{Port}
 use Rattle.unit.specs.declared.mux.Mux.{Mux}
-use Rattle.unit.specs.declared.reply.Turn.{Turn}
 use Rattle.unit.specs.declared.reply.Turn.the-variants.{Idle, Served}
 use Rattle.unit.specs.Record.{portAt, addressAt}
 use Rattle.unit.specs.Reply.{counts, refused, Looked, looked}
 use Rattle.unit.specs.Refusals.{WORDS, refusal, ofInspection}
 use Rattle.unit.specs.Sound.{Sound}
 use Rattle.unit.specs.laws.Sound.{sound-with, inspection-iff}
-use Rattle.unit.specs.laws.Ports.{held-inside, port-same, port-other, port-written}
+use Rattle.unit.specs.laws.Ports.{held-inside, empty-inside, port-same, port-other, port-written}
 use Rattle.input.specs.laws.Kept.{kept-length as input-length}
 use Rattle.output.specs.laws.Kept.{kept-length as output-length}
 use Rattle.scan.specs.Turn.{service, took, irqAfter, Turning, servedTurn, idleTurn, turn}
@@ -223,13 +224,27 @@ answer-names u m c = go (kind u m)
     go (takes-turn e r t) = rw t (scan-moves u m .names)
     go (stands-still k e t) = absurd (false≢true (ap (λ l. counts (l .reply .answer .turn)) (sym t) ∙ c))
 
+-- ---- what any inspection keeps
+
+-- what holds of the record itself and of the record after a turn holds after the inspection
+pub inspection-either : (C : Mux → Type 0) (u : Mux) (m : List ℕ) → C u → C (scanned u m .world .mux) → C (inspection u m .world .mux)
+inspection-either C u m a b = go (kind u m)
+  where
+    go : Kind u m → C (inspection u m .world .mux)
+    go (takes-turn e r t) = rw t b
+    go (stands-still k e t) = rw t a
+
 -- no inspection stops a unit or sets it going
 pub inspection-runs : (u : Mux) (m : List ℕ) → inspection u m .world .mux .runs ≡ u .runs
-inspection-runs u m = go (kind u m)
-  where
-    go : Kind u m → inspection u m .world .mux .runs ≡ u .runs
-    go (takes-turn e r t) = rw t (scan-moves u m .runs)
-    go (stands-still k e t) = rw t
+inspection-runs u m = inspection-either (λ v. v .runs ≡ u .runs) u m refl (scan-moves u m .runs)
+
+-- a sound record stays sound
+pub inspection-sound : (u : Mux) (m : List ℕ) → Sound u → Sound (inspection u m .world .mux)
+inspection-sound u m s = inspection-either Sound u m s (moves-sound u m (scanned u m) (scan-moves u m) s)
+
+-- the array of ports is as long as it was
+pub inspection-ports : (u : Mux) (m : List ℕ) → length (inspection u m .world .mux .port) ≡ length (u .port)
+inspection-ports u m = inspection-either (λ v. length (v .port) ≡ length (u .port)) u m refl (scan-moves u m .ports)
 
 -- ---- the port after its turn
 
@@ -257,3 +272,29 @@ pub service-empty : (k : Service) (u : Mux) (m : List ℕ) → u .pos < length (
 unfolding serviceTurn servedTurn took
 service-empty Input u m h = ap (λ x. x .empty) (port-same u _ (u .pos) _ refl h)
 service-empty Output u m h = ap (λ x. x .empty) (port-same u _ (u .pos) _ refl h)
+
+-- a service that handed a byte to the transmitter, as an echo or as output, leaves it not empty
+pub service-sent : (k : Service) (u : Mux) (m : List ℕ) → u .pos < length (u .port) → serviceTurn k u m .reply .answer .sent ≡ true → portAt (serviceTurn k u m .world .mux) (u .pos) .empty ≡ false
+service-sent k u m h s = service-empty k u m h ∙ ap (λ (t : Bool). portAt u (u .pos) .empty && not t) s ∙ full (portAt u (u .pos) .empty)
+  where
+    full : (b : Bool) → (b && false) ≡ false
+    full true = refl
+    full false = refl
+
+-- so does an inspection: a port that was served is one of the array's
+pub inspection-sent : (u : Mux) (m : List ℕ) → inspection u m .reply .answer .sent ≡ true → portAt (inspection u m .world .mux) (u .pos) .empty ≡ false
+unfolding idleTurn
+inspection-sent u m s = go (kind u m)
+  where
+    -- the same of a turn that the inspection is
+    Full : Looked → Type 0
+    Full l = l .reply .answer .sent ≡ true → portAt (l .world .mux) (u .pos) .empty ≡ false
+
+    by : (h e : Bool) → portAt u (u .pos) .held ≡ h → portAt u (u .pos) .empty ≡ e → Full (scanned u m)
+    by true e h f = rw (scanned-input u m h) (service-sent Input u m (held-inside u (u .pos) h))
+    by false true h f = rw (scanned-output u m h f) (service-sent Output u m (empty-inside u (u .pos) f))
+    by false false h f = rw (scanned-idle u m h f) (λ c. absurd (false≢true c))
+
+    go : Kind u m → portAt (inspection u m .world .mux) (u .pos) .empty ≡ false
+    go (takes-turn e r t) = rw t (by (portAt u (u .pos) .held) (portAt u (u .pos) .empty) refl refl (rw t at s))
+    go (stands-still k e t) = absurd (false≢true (ap (λ (l : Looked). l .reply .answer .sent) (sym t) ∙ s))

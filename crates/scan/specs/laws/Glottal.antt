@@ -1,0 +1,100 @@
+-- The glottal stop at an inspection (document 01, one inspection, and Input 4 and 5): the laws of input, carried to the record.
+--   Waits         the port whose turn it is holds the glottal stop, in 7-bit ASCII automatic mode with INDONE clear
+--   Delivered     what the host and the record have of it afterwards
+--   glottal-seen  every such inspection leaves that; of the turns before it nothing is asked
+--   marked-waits, glottal-seen-marked   one that replaced a held character: the same, with the overload code
+-- Not here: the service itself, in laws/Glottal of input; a sweep and a call that inspect, in laws/Glottal of sweep and of door.
+-- Assumes nothing.
+use mathlib.Core.Path.{_≡_, refl, ap, _∙_, subst}
+use mathlib.Core.Bool.{Bool, true, false, not, _&&_}
+use mathlib.Core.List.{List}
+use Prim.Native.Nat.{ℕ}
+use lib.ListN.{length}
+use Rattle.ground.specs.Choose.{pick}
+use Rattle.interrupt.specs.declared.Service.the-variants.{Input}
+use Rattle.interrupt.specs.Interrupt.{raised}
+use Rattle.unit.specs.declared.mux.Mux.{Mux}
+use Rattle.unit.specs.declared.reply.Turn.the-variants.{Served}
+use Rattle.unit.specs.Record.{portAt, blockAt, addressAt}
+use Rattle.unit.specs.Reply.{Looked}
+use Rattle.unit.specs.Refusals.{WORDS}
+use Rattle.unit.specs.Sound.{Sound}
+use Rattle.unit.specs.laws.Sound.{block-inside}
+use Rattle.unit.specs.laws.Ports.{held-inside}
+use Rattle.words.specs.Codes.{flagOverload}
+use Rattle.input.specs.laws.Glottal.{Placed, Automatic, Told, Bar, glottal-stop, bar-marked}
+use Rattle.scan.specs.Turn.{service, servedTurn, irqAfter}
+use Rattle.scan.specs.Scan.{serviceTurn, inspection}
+use Rattle.scan.specs.laws.Scan.{sound-scans, scanned-input, Moves, scan-moves, turn-takes, service-empty}
+
+-- a sound running unit with 32,768 words is at port p, which holds the glottal stop with that error code; the port's mode is 7-bit ASCII
+-- automatic, with echo or without, and INDONE is clear
+pub record Waits (u : Mux) (m : List ℕ) (p code : ℕ) : Type 0 where
+  pub sound : Sound u
+  pub runs : u .runs ≡ true
+  pub words : length m ≡ WORDS
+  pub turn : u .pos ≡ p
+  pub held : portAt u p .held ≡ true
+  pub bar : Bar (portAt u p) code
+  pub mode : Automatic m (blockAt (u .setting) p)
+
+-- the input of port p was served and named; no byte was handed over, and one interrupt was raised, which has the port's address. ICW of its
+-- block says octal 374, done, with the error code, and every other word is as it was. The port holds nothing, and its transmitter is as it
+-- was. The position is one on, and every other port is as it was (`Moves`).
+pub record Delivered (u : Mux) (m : List ℕ) (p code : ℕ) (l : Looked) : Type 0 where
+  pub served : l .reply .answer .turn ≡ Served Input
+  pub names : l .reply .answer .port ≡ p
+  pub no-echo : l .reply .answer .sent ≡ false
+  pub one-interrupt : l .reply .answer .raised ≡ true
+  pub address : l .world .mux .irq ≡ raised Input (addressAt (u .setting) p) (u .irq)
+  pub told : Told m (l .world .memory) (blockAt (u .setting) p) code 0o374
+  pub taken : portAt (l .world .mux) p .held ≡ false
+  pub transmitter : portAt (l .world .mux) p .empty ≡ portAt u p .empty
+  pub moves : Moves u m l
+
+-- the turn of the port at the position, by what its service does
+at-position : (u : Mux) (m : List ℕ) (code : ℕ) → Waits u m (u .pos) code → Delivered u m (u .pos) code (serviceTurn Input u m)
+unfolding serviceTurn servedTurn service irqAfter pick
+at-position u m code h =
+    let p = u .pos in
+    let placed : Placed m (blockAt (u .setting) p) = record { words = h .words; inside = block-inside (u .setting) p (h .sound .setting) (h .sound .position) } in
+    let r = glottal-stop m (blockAt (u .setting) p) (portAt u p) code placed (h .mode) (h .bar) in
+    let e = scanned-input u m (h .held) in
+    record {
+      served = refl;
+      names = refl;
+      no-echo = r .no-echo;
+      one-interrupt = r .one-interrupt;
+      address = rw (r .one-interrupt);
+      told = r .told;
+      taken = rw e at (turn-takes u m);
+      transmitter = service-empty Input u m (held-inside u p (h .held)) ∙ ap (λ (t : Bool). portAt u p .empty && not t) (r .no-echo) ∙ as-it-was (portAt u p .empty);
+      moves = rw e at (scan-moves u m);
+    }
+  where
+    as-it-was : (b : Bool) → (b && true) ≡ b
+    as-it-was true = refl
+    as-it-was false = refl
+
+-- an inspection of such a unit, whatever port had the turn before
+pub glottal-seen : (u : Mux) (m : List ℕ) (p code : ℕ) → Waits u m p code → Delivered u m p code (inspection u m)
+glottal-seen u m p code h = subst (λ (r : ℕ). Waits u m r code → Delivered u m r code (inspection u m)) (h .turn) here h
+  where
+    here : Waits u m (u .pos) code → Delivered u m (u .pos) code (inspection u m)
+    here w = rw (sound-scans u m (w .sound) (w .runs) (w .words), scanned-input u m (w .held)) (at-position u m code w)
+
+-- one that replaced a held character has the error code overload
+pub marked-waits : (u : Mux) (m : List ℕ) (p code : ℕ) → Waits u m p code → portAt u p .ch .overload ≡ true → Waits u m p flagOverload
+marked-waits u m p code h o =
+    record {
+      sound = h .sound;
+      runs = h .runs;
+      words = h .words;
+      turn = h .turn;
+      held = h .held;
+      bar = bar-marked (portAt u p) (h .bar .bar) o;
+      mode = h .mode;
+    }
+
+pub glottal-seen-marked : (u : Mux) (m : List ℕ) (p code : ℕ) → Waits u m p code → portAt u p .ch .overload ≡ true → Delivered u m p flagOverload (inspection u m)
+glottal-seen-marked u m p code h o = glottal-seen u m p flagOverload (marked-waits u m p code h o)
