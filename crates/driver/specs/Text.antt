@@ -2,7 +2,7 @@
 --   blank                       a line of which nothing is read yet
 --   isDigit, extended, ended    a digit, the line with one more, the line with its number ended
 --   typed                       the line with one more byte
--- Not here: which orders there are, in FORMAT.md; the line that is printed, which is held by the comparison alone.
+-- Not here: which orders there are, in FORMAT.md; the line that is printed, in Printed.
 -- Assumes nothing.
 use mathlib.Core.Bool.{Bool, false}
 use Prim.Native.Nat.{ℕ, _+_, _*_, _%_}

@@ -1,3 +1,9 @@
 -- What follows from the driver's definitions. Nothing here need be believed.
---   Folds   a fold over a list, from a place in it on
+--   Folds      a fold over a list, from a place in it on
+--   Fill       the words of order 21, filled one after the other
+--   Numerals   a number's decimal digits
+--   Lines      the bytes of a line, put one number after the other
 pub mod Folds
+pub mod Fill
+pub mod Numerals
+pub mod Lines

@@ -1,12 +1,14 @@
 // What the host does to its memory and its list (orders 20, 21 and 23), and how much of each it lends.
 ghost use mathlib.Core.List.{map};
-ghost use Prim.Native.Nat.{_%_, _≤_, _<_};
+ghost use Prim.Native.Nat.{_%_, _<_, min};
 ghost use mathlib.Core.Path.{_≡_};
 ghost use lib.ListN.{length, set};
+ghost use Rattle.ground.specs.Choose.{Below};
+ghost use Rattle.driver.specs.Host.{next, series};
 
 // The smaller of two counts: so many places of `most` are lent.
 pub fn lent(asked: u32, most: usize) -> usize
-    ensures { λ r. ⌜ r ≤ most ⌝ }
+    ensures { λ r. ⌜ r ≡ min asked most ⌝ }
 {
     if (asked as usize) < most {
         return asked as usize;
@@ -27,14 +29,14 @@ pub fn write(mem: &mut [u16], at: u32, word: u32)
 // The next number of order 21's series.
 fn next(x: u64) -> u64
     requires { ⌜ x < 4294967296 ⌝ }
-    ensures { λ r. ⌜ r < 4294967296 ⌝ }
+    ensures { λ r. ⌜ Below 2147483647 (next x) r ⌝ }
 {
     x * 48271 % 2147483647
 }
 
 // Order 21: the whole memory filled from a seed.
 pub fn fill(mem: &mut [u16], seed: u32)
-    ensures { λ _. ⌜ length (now (mem .exit)) ≡ length (now (mem .entry)) ⌝ }
+    ensures { λ _. ⌜ now (mem .exit) ≡ series (length (now (mem .entry))) seed ⌝ }
 {
     let mut x = seed as u64;
     let mut i = 0;

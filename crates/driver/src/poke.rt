@@ -6,97 +6,117 @@ use unit::mux::Port;
 use unit::mux::Setting;
 use unit::mux::port_at;
 use unit::mux::with_port;
+ghost use mathlib.Core.Path.{_≡_};
+ghost use Rattle.ground.specs.Choose.{pick};
+ghost use Rattle.driver.specs.Poke.{pokedSetting, pokedIrq, poked, pokedCharacter, pokedField, pokedPort};
 
-// The interrupt side with its flag (6) or its status word (7) poked.
-fn poked_irq(i: Irq, field: u32, value: u32) -> Irq {
-    let mut r = i;
-    if field == 6 {
-        r.flag = value != 0;
+// A number of the setting or the position: the poked one where this is the field, else the old one.
+fn number_if(here: bool, new: u32, old: u32) -> u32
+    ensures { λ r. ⌜ r ≡ pick here new old ⌝ }
+{
+    if here {
+        return new;
     }
-    if field == 7 {
-        r.status = (value % 65536) as u16;
+    old
+}
+
+// A word, likewise.
+fn word_if(here: bool, new: u16, old: u16) -> u16
+    ensures { λ r. ⌜ r ≡ pick here new old ⌝ }
+{
+    if here {
+        return new;
     }
-    r
+    old
+}
+
+// A byte, likewise.
+fn byte_if(here: bool, new: u8, old: u8) -> u8
+    ensures { λ r. ⌜ r ≡ pick here new old ⌝ }
+{
+    if here {
+        return new;
+    }
+    old
+}
+
+// A bool, likewise.
+fn level_if(here: bool, new: bool, old: bool) -> bool
+    ensures { λ r. ⌜ r ≡ pick here new old ⌝ }
+{
+    if here {
+        return new;
+    }
+    old
 }
 
 // The setting with its block size (0), P (1) or base (2) poked.
-fn poked_setting(s: Setting, field: u32, value: u32) -> Setting {
+fn poked_setting(s: Setting, field: u32, value: u32) -> Setting
+    ensures { λ r. ⌜ r ≡ pokedSetting s field value ⌝ }
+{
     let mut r = s;
-    if field == 0 {
-        r.block = value;
-    }
-    if field == 1 {
-        r.ports = value;
-    }
-    if field == 2 {
-        r.base = value;
-    }
+    r.block = number_if(field == 0, value, s.block);
+    r.ports = number_if(field == 1, value, s.ports);
+    r.base = number_if(field == 2, value, s.base);
+    r
+}
+
+// The interrupt side with its flag (6) or its status word (7) poked.
+fn poked_irq(i: Irq, field: u32, value: u32) -> Irq
+    ensures { λ r. ⌜ r ≡ pokedIrq i field value ⌝ }
+{
+    let mut r = i;
+    r.flag = level_if(field == 6, value != 0, i.flag);
+    r.status = word_if(field == 7, (value % 65536) as u16, i.status);
     r
 }
 
 // The record with a field poked: 3 its position, 4 whether the unit runs, 5 its clock.
-pub fn poked(u: Mux, field: u32, value: u32) -> Mux {
-    let mut v = u;
+pub fn poked(u: Mux, field: u32, value: u32) -> Mux
+    ensures { λ r. ⌜ r ≡ poked u field value ⌝ }
+{
     let s = u.setting;
-    v.setting = poked_setting(s, field, value);
-    if field == 3 {
-        v.pos = value;
-    }
-    if field == 4 {
-        v.runs = value != 0;
-    }
-    if field == 5 {
-        v.clock = value != 0;
-    }
     let i = u.irq;
+    let mut v = u;
+    v.setting = poked_setting(s, field, value);
+    v.pos = number_if(field == 3, value, u.pos);
+    v.runs = level_if(field == 4, value != 0, u.runs);
+    v.clock = level_if(field == 5, value != 0, u.clock);
     v.irq = poked_irq(i, field, value);
     v
 }
 
 // The held character with its byte (1) or a mark (2 parity, 3 break, 4 overload) poked.
-fn poked_character(c: Character, field: u32, value: u32) -> Character {
+fn poked_character(c: Character, field: u32, value: u32) -> Character
+    ensures { λ r. ⌜ r ≡ pokedCharacter c field value ⌝ }
+{
     let mut r = c;
-    if field == 1 {
-        r.byte = (value % 256) as u8;
-    }
-    if field == 2 {
-        r.parity = value != 0;
-    }
-    if field == 3 {
-        r.brk = value != 0;
-    }
-    if field == 4 {
-        r.overload = value != 0;
-    }
+    r.byte = byte_if(field == 1, (value % 256) as u8, c.byte);
+    r.parity = level_if(field == 2, value != 0, c.parity);
+    r.brk = level_if(field == 3, value != 0, c.brk);
+    r.overload = level_if(field == 4, value != 0, c.overload);
     r
 }
 
-// The port with a field poked: 0 held, 5 transmitter empty, 6 control bits, 7 Device Control, 8 Device Status line.
-fn poked_field(q: Port, field: u32, value: u32) -> Port {
+// The port with a field poked: 0 held, 5 transmitter empty, 6 control bits, 7 Device Control, 8 Device Status line, the rest in its character.
+fn poked_field(q: Port, field: u32, value: u32) -> Port
+    ensures { λ r. ⌜ r ≡ pokedField q field value ⌝ }
+{
+    let c = q.ch;
     let mut r = q;
-    if field == 0 {
-        r.held = value != 0;
-    }
-    if field == 5 {
-        r.empty = value != 0;
-    }
-    if field == 6 {
-        r.control = (value % 256) as u8;
-    }
-    if field == 7 {
-        r.devcontrol = value != 0;
-    }
-    if field == 8 {
-        r.devstatus = value != 0;
-    }
+    r.held = level_if(field == 0, value != 0, q.held);
+    r.ch = poked_character(c, field, value);
+    r.empty = level_if(field == 5, value != 0, q.empty);
+    r.control = byte_if(field == 6, (value % 256) as u8, q.control);
+    r.devcontrol = level_if(field == 7, value != 0, q.devcontrol);
+    r.devstatus = level_if(field == 8, value != 0, q.devstatus);
     r
 }
 
 // The record with a field of port p poked.
-pub fn poked_port(u: Mux, p: u32, field: u32, value: u32) -> Mux {
+pub fn poked_port(u: Mux, p: u32, field: u32, value: u32) -> Mux
+    ensures { λ r. ⌜ r ≡ pokedPort u p field value ⌝ }
+{
     let at = p % 128;
-    let mut q = poked_field(port_at(u, at), field, value);
-    let c = q.ch;
-    q.ch = poked_character(c, field, value);
-    with_port(u, at, q)
+    with_port(u, at, poked_field(port_at(u, at), field, value))
 }
