@@ -19,7 +19,7 @@ def first_difference(text, expected, got):
     for order in text:
         op = int(order.split()[0])
         call += op in drive.CALLS
-        if op in drive.CALLS or op in (drive.DIGEST, drive.END):
+        if op in drive.PRINTED:
             want, have = next(expected, None), next(got, None)
             if want != have or want is None:
                 return (f'session {session}, call {call}: {drive.NAMES[op]}: {order}\n'

@@ -12,13 +12,14 @@ MODULUS, FACTOR = 2147483647, 65599
 SETUP, ARRIVAL, TRANSMITTED, DEVICE_STATUS = 1, 2, 3, 4
 RESET, IOPLS, START, DOC, DOB, DIA, DIAS, TICK = range(5, 13)
 INSPECT, SWEEP = 13, 14
-WRITE, FILL, WORDS, PLACES, POKE, POKE_PORT = range(20, 26)
+WRITE, FILL, WORDS, PLACES, POKE, POKE_PORT, SPEED = range(20, 27)
 DIGEST, END = 30, 31
 CALLS = range(SETUP, SWEEP + 1)
+PRINTED = (*CALLS, SPEED, DIGEST, END)            # the orders that print a line
 NAMES = {1: 'setup', 2: 'arrival', 3: 'transmitted', 4: 'device_status', 5: 'reset', 6: 'iopls',
          7: 'start', 8: 'doc', 9: 'dob', 10: 'dia', 11: 'dias', 12: 'tick', 13: 'inspect',
          14: 'sweep', 20: 'host write', 21: 'fill memory', 22: 'memory lent', 23: 'list lent',
-         24: 'poke', 25: 'poke port', 30: 'whole digest', 31: 'end of session'}
+         24: 'poke', 25: 'poke port', 26: 'speed', 30: 'whole digest', 31: 'end of session'}
 FIELDS = ('block', 'ports', 'base', 'pos', 'runs', 'clock', 'irq', 'status')
 PORT_FIELDS = mux2.Port._fields
 
@@ -139,6 +140,8 @@ class Driver:
             p, field, value = rest
             name = PORT_FIELDS[field]
             mux.change(p, **{name: mux2.BYTE_BITS[value] if name == 'control' else value})
+        elif op == SPEED:
+            return self.line(op, mux.speed(rest[0]))
         elif op in (DIGEST, END):
             line = self.line(op, memory.digest(), digest(mux.places))
             if op == END:

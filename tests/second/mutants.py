@@ -241,6 +241,12 @@ MUTANTS = [
     ('places past the last one cleared', "        return 0, made, used\n",
      "        self.places[used:n] = [0] * (n - used)\n        return 0, made, used\n"),
     ('sweep invents its count', "        return 0, made, used\n", "        return 0, n, used\n"),
+
+    # Speeds.
+    ('speed by control bits 12 to 14', "BYTE_BITS[control][5:]", "BYTE_BITS[control][4:7]"),
+    ('speed bits read backwards', "SPEEDS[4 * first + 2 * second + third]",
+     "SPEEDS[first + 2 * second + 4 * third]"),
+    ('speeds 1200 and 2400 exchanged', "1200, 2400", "2400, 1200"),
 ]
 
 

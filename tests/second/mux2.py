@@ -121,7 +121,8 @@ BRANCHES = (
        'interrupt: first', 'interrupt: more than one', 'interrupt beside a tick',
        'interrupt: base below 128 blocks', 'interrupt: base of 128 blocks or more',
        'sweep: stopped unit', 'sweep of none', 'sweep: stops on an interrupt', 'sweep: all made',
-       'sweep: interrupt at the last one', 'sweep of 4096', 'sweep: byte listed', 'sweep: no byte'])
+       'sweep: interrupt at the last one', 'sweep of 4096', 'sweep: byte listed', 'sweep: no byte']
+    + [f'speed {code:03b}' for code in range(8)])
 
 
 class Mux2:
@@ -572,6 +573,14 @@ class Mux2:
 
     def host_write(self, address, word):
         self.memory.put(address, word)
+
+    # The speeds.
+
+    def speed(self, control):
+        """The line speed, in baud, that these eight control bits ask for."""
+        first, second, third = BYTE_BITS[control][5:]          # control bits 13 to 15
+        self.hit(f'speed {first}{second}{third}')
+        return SPEEDS[4 * first + 2 * second + third]
 
 
 # The line speeds by control bits 13 to 15, 000 first (001, 4.2).

@@ -414,6 +414,18 @@ def write_session(seed, number):
     return author, reached
 
 
+def speeds_session():
+    """The session of order 26: every control byte, so each code with the other bits set and clear."""
+    author = Author(SEED, 0)
+    author.kind = 'speeds'
+    for control in range(256):
+        author.do(drive.SPEED, control)
+    reached = author.mux.reached
+    author.do(drive.END)
+    return author, reached
+
+
 def fixed_set(seed=SEED, sessions=SESSIONS):
+    yield speeds_session()
     for number in range(sessions):
         yield write_session(seed, number)

@@ -2,7 +2,8 @@
 
     small.py FOLDER
 
-The first orders of four sessions of the fixed set, each with a whole digest and an end; every order is in them.
+The first orders of four sessions of the fixed set, each with a whole digest and an end, and the session of the speeds; every
+order is in them.
 """
 
 import pathlib
@@ -17,10 +18,11 @@ NUMBERS, ORDERS = (0, 5, 8, 9), 260
 def main():
     folder = pathlib.Path(sys.argv[1])
     text, lines = [], []
-    for number in NUMBERS:
-        author, _ = sessions.write_session(sessions.SEED, number)
+    parts = [sessions.write_session(sessions.SEED, number)[0].orders[:ORDERS] + [(drive.DIGEST,), (drive.END,)]
+             for number in NUMBERS]
+    for orders in parts + [sessions.speeds_session()[0].orders]:
         driver = drive.Driver()
-        for order in author.orders[:ORDERS] + [(drive.DIGEST,), (drive.END,)]:
+        for order in orders:
             text.append(' '.join(map(str, order)))
             line = driver.drive(order)
             if line is not None:

@@ -134,6 +134,16 @@ def test_sweep_lists_bytes_and_stops():
 
 def test_speeds():
     assert mux2.SPEEDS == (110, 150, 300, 600, 1200, 2400, 4800, 9600)
+    rows = {'000': 110, '001': 150, '010': 300, '011': 600,     # bits 13, 14, 15 (001, 4.2)
+            '100': 1200, '101': 2400, '110': 4800, '111': 9600}
+    mux = unit()
+    before = {**vars(mux.record), 'port': list(mux.record.port)}
+    for control in range(256):
+        ocw = format(0o50000 + control, '016b')         # indexed by the manual's bit numbers
+        assert mux.speed(control) == rows[ocw[13] + ocw[14] + ocw[15]]
+    assert vars(mux.record) == before and not any(mux.memory.halves)
+    assert all(mux.reached[f'speed {code}'] == 32 for code in rows)
+    assert mux.speed(0o360) == 110                      # section 6's port control word
 
 
 # Errors that document 01 has seen.
@@ -306,9 +316,10 @@ def test_orders_keep_the_format():
     field = [number] * 4 + [1, 1, 1, word]
     most = {1: (number, number, number, 1), 2: (number, 255, 1, 1), 3: (number,), 4: (number, 1),
             13: (32760,), 14: (number, 32760), 20: (39999, word), 21: (2147483646,), 22: (40000,),
-            23: (4200, word), 24: (7, number), 25: (127, 8, 255)}
-    for number_of_session in range(len(sessions.KINDS)):
-        for op, *rest in sessions.write_session(7, number_of_session)[0].orders:
+            23: (4200, word), 24: (7, number), 25: (127, 8, 255), 26: (255,)}
+    written = [sessions.write_session(7, number)[0] for number in range(len(sessions.KINDS))]
+    for author in written + [sessions.speeds_session()[0]]:
+        for op, *rest in author.orders:
             limits = most.get(op, ())
             assert op in drive.NAMES and len(rest) == len(limits)
             assert all(type(x) is int and 0 <= x <= limit for x, limit in zip(rest, limits))

@@ -1,12 +1,60 @@
--- What the numbers of a line of a session's text ask for (tests/second/FORMAT.md).
---   settingOf   the setting of order 1
--- Not here: the other orders, which the comparison of every session holds.
+-- What the numbers of a line of a session's text ask of the unit (tests/second/FORMAT.md, orders 1 to 14).
+--   nth                         a number of the line: the opcode is the first, at 0
+--   settingOf                   the setting of order 1
+--   signalOf, orderOf, actOf    orders 2 to 4, 5 to 12, and 2 to 13
+--   callOf                      orders 1 to 14 as a call
+-- Not here: what a call does, `step` in Calls of the crate calls; the other orders, in Session; what is printed, in Said.
 -- Assumes nothing.
 use mathlib.Core.List.{List}
-use Prim.Native.Nat.{ℕ}
+use Prim.Native.Nat.{ℕ, _%_}
+use lib.Dec.{eqb, ltb}
 use lib.ListN.{getD}
+use Rattle.ground.specs.Choose.{pick}
 use Rattle.unit.specs.declared.mux.Setting.{Setting}
+use Rattle.lines.specs.declared.signal.Signal.{Signal}
+use Rattle.lines.specs.declared.signal.Signal.the-variants.{Arrival, TransmitterEmpty, DeviceStatus}
+use Rattle.processor.specs.declared.orders.Order.{Order}
+use Rattle.processor.specs.declared.orders.Order.the-variants.{Reset, Iopls, Start, Doc, Dob, Dia, Dias, Tick}
+use Rattle.calls.specs.declared.call.Act.{Act}
+use Rattle.calls.specs.declared.call.Act.the-variants.{Line, Processor, Inspect}
+use Rattle.calls.specs.declared.call.What.the-variants.{Do, Sweep}
+use Rattle.calls.specs.declared.call.Call.{Call}
+use Rattle.calls.specs.Calls.{asking, settingUp}
+use Rattle.driver.specs.Poke.{level}
+
+-- a number of the line; a line that has fewer reads 0
+abbrev pub nth : List ℕ → ℕ → ℕ
+nth n k = getD n k 0
 
 -- order 1 b P base take
 abbrev pub settingOf : List ℕ → Setting
-settingOf n = record { block = getD n 1 0; ports = getD n 2 0; base = getD n 3 0 }
+settingOf n = record { block = nth n 1; ports = nth n 2; base = nth n 3 }
+
+-- order 2 port byte parity break; order 3 port; order 4 port level
+unfoldable pub signalOf : List ℕ → Signal
+signalOf n =
+    pick (eqb (nth n 0) 2) (Arrival (nth n 2 % 256) (level (nth n 3)) (level (nth n 4)))
+    (pick (eqb (nth n 0) 3) TransmitterEmpty (DeviceStatus (level (nth n 2))))
+
+-- orders 5 to 12: reset, IOPLS, START, DOC, DOB, DIA, DIAS, tick
+unfoldable pub orderOf : ℕ → Order
+orderOf op =
+    pick (eqb op 5) Reset
+    (pick (eqb op 6) Iopls
+    (pick (eqb op 7) Start
+    (pick (eqb op 8) Doc
+    (pick (eqb op 9) Dob
+    (pick (eqb op 10) Dia
+    (pick (eqb op 11) Dias Tick))))))
+
+-- orders 2 to 4 a line, 5 to 12 the processor, 13 one inspection
+unfoldable pub actOf : List ℕ → Act
+actOf n =
+    pick (ltb (nth n 0) 5) (Line (nth n 1) (signalOf n))
+    (pick (ltb (nth n 0) 13) (Processor (orderOf (nth n 0))) Inspect)
+
+-- order 1 a setup, 2 to 13 one thing, 14 n look: a sweep of n inspections
+unfoldable pub callOf : List ℕ → Call
+callOf n =
+    pick (eqb (nth n 0) 1) (settingUp (settingOf n))
+    (pick (ltb (nth n 0) 14) (asking (Do (actOf n))) (asking (Sweep (nth n 1))))

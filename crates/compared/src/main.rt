@@ -31,13 +31,22 @@ use unit::reply::Reply;
 use unit::reply::turn_number;
 use unit::setup::no_mux;
 use unit::setup::setup;
+use words::speed::speed_of;
 ghost use mathlib.Core.Path.{_≡_};
+ghost use lib.ListN.{take};
+ghost use Rattle.ground.specs.Choose.{Below};
+ghost use Rattle.unit.specs.Reply.{outcome};
 ghost use Rattle.unit.specs.Setup.{setup};
-ghost use Rattle.compared.specs.Orders.{settingOf};
+ghost use Rattle.driver.specs.Digest.{digest};
+ghost use Rattle.driver.specs.Printed.{nothing};
+ghost use Rattle.compared.specs.Orders.{settingOf, signalOf, orderOf, actOf, callOf};
+ghost use Rattle.compared.specs.Desk.{kept, newDesk, withUnit, withWords, withPlaces, withLine, closed};
+ghost use Rattle.compared.specs.Said.{saying, answerSaid, toldOf, lookedOf, unitSaid, wholeSaid, speedSaid};
+ghost use Rattle.compared.specs.Session.{calledLent, standing, unitOrder, deskOrder, hostOrder, endOrder, order, takeByte, played, Turned, Driven};
 
 // What the driver keeps beside the memory and the list: whether the text goes on, the line being read, the unit, how many words and places are lent.
 struct Desk {
-    open: bool,
+    going: bool,
     line: Line,
     unit: Mux,
     words: u32,
@@ -45,9 +54,11 @@ struct Desk {
 }
 
 // The desk at the start of a session.
-fn new_desk() -> Desk {
+fn new_desk() -> Desk
+    ensures { λ r. ⌜ r ≡ newDesk ⌝ }
+{
     Desk {
-        open: true,
+        going: true,
         line: blank(),
         unit: no_mux(),
         words: 32768,
@@ -56,9 +67,47 @@ fn new_desk() -> Desk {
 }
 
 // The desk with another unit.
-fn with_unit(d: Desk, u: Mux) -> Desk {
+fn with_unit(d: Desk, u: Mux) -> Desk
+    ensures { λ r. ⌜ r ≡ withUnit d u ⌝ }
+{
     let mut e = d;
     e.unit = u;
+    e
+}
+
+// The desk with so many words lent.
+fn with_words(d: Desk, words: u32) -> Desk
+    ensures { λ r. ⌜ r ≡ withWords d words ⌝ }
+{
+    let mut e = d;
+    e.words = words;
+    e
+}
+
+// The desk with so many places lent.
+fn with_places(d: Desk, places: u32) -> Desk
+    ensures { λ r. ⌜ r ≡ withPlaces d places ⌝ }
+{
+    let mut e = d;
+    e.places = places;
+    e
+}
+
+// The desk with the line as it is read so far.
+fn with_line(d: Desk, l: Line) -> Desk
+    ensures { λ r. ⌜ r ≡ withLine d l ⌝ }
+{
+    let mut e = d;
+    e.line = l;
+    e
+}
+
+// The desk at the end of the text.
+fn closed(d: Desk) -> Desk
+    ensures { λ r. ⌜ r ≡ closed d ⌝ }
+{
+    let mut e = d;
+    e.going = false;
     e
 }
 
@@ -74,7 +123,9 @@ fn setting_of(n: [u32; 5]) -> Setting
 }
 
 // Orders 2 to 4: what a line does.
-fn signal_of(n: [u32; 5]) -> Signal {
+fn signal_of(n: [u32; 5]) -> Signal
+    ensures { λ r. ⌜ r ≡ signalOf n ⌝ }
+{
     match n[0] {
         2 => Signal::Arrival {
             c: (n[2] % 256) as u8,
@@ -87,7 +138,9 @@ fn signal_of(n: [u32; 5]) -> Signal {
 }
 
 // Orders 5 to 12: what the processor does.
-fn order_of(op: u32) -> Order {
+fn order_of(op: u32) -> Order
+    ensures { λ r. ⌜ r ≡ orderOf op ⌝ }
+{
     match op {
         5 => Order::Reset,
         6 => Order::Iopls,
@@ -101,7 +154,9 @@ fn order_of(op: u32) -> Order {
 }
 
 // Orders 2 to 13: one thing asked of the unit that stands.
-fn act_of(n: [u32; 5]) -> Act {
+fn act_of(n: [u32; 5]) -> Act
+    ensures { λ r. ⌜ r ≡ actOf n ⌝ }
+{
     if n[0] < 5 {
         return Act::Line {
             port: n[1],
@@ -117,7 +172,9 @@ fn act_of(n: [u32; 5]) -> Act {
 }
 
 // Orders 1 to 14 as a call.
-fn call_of(n: [u32; 5]) -> Call {
+fn call_of(n: [u32; 5]) -> Call
+    ensures { λ r. ⌜ r ≡ callOf n ⌝ }
+{
     if n[0] == 1 {
         return setting_up(setting_of(n));
     }
@@ -128,7 +185,9 @@ fn call_of(n: [u32; 5]) -> Call {
 }
 
 // One call on what is lent of the memory and of the list.
-fn called_lent(d: Desk, mem: &mut [u16], list: &mut [u16], c: Call) -> Replied {
+fn called_lent(d: Desk, mem: &mut [u16], list: &mut [u16], c: Call) -> Replied
+    ensures { λ r. ⌜ outcome r (now (mem .exit)) (now (list .exit)) ≡ calledLent (kept d (now (mem .entry)) (now (list .entry))) c ⌝ }
+{
     let m = lent(d.words, mem.len());
     let k = lent(d.places, list.len());
     door::call_by_value(d.unit, &mut mem[..m], &mut list[..k], c)
@@ -143,7 +202,9 @@ fn made(n: [u32; 5]) -> Mux
 }
 
 // The unit after the order, of the one that the call left: a setup with take 1 is taken, refused or not.
-fn standing(u: Mux, n: [u32; 5]) -> Mux {
+fn standing(u: Mux, n: [u32; 5]) -> Mux
+    ensures { λ r. ⌜ r ≡ standing u n ⌝ }
+{
     if n[0] == 1 && n[4] == 1 {
         return made(n);
     }
@@ -151,18 +212,23 @@ fn standing(u: Mux, n: [u32; 5]) -> Mux {
 }
 
 // The line with what an inspection answers.
-fn answered(s: Said, a: Answer) -> Said {
+fn answered(s: Said, a: Answer) -> Said
+    ensures { λ r. ⌜ r ≡ saying s (answerSaid a) ⌝ }
+{
     let t = a.turn;
     let p = and(and(s, turn_number(t) as u64), a.port as u64);
     and(and(and(p, number(a.sent)), a.byte as u64), number(a.raised))
 }
 
 // The line up to the record: the opcode, the refusal number, and what orders 1, 10, 11, 13 and 14 have beside it.
-fn told(n: [u32; 5], r: Reply) -> Said {
+fn told(n: [u32; 5], r: Reply) -> Said
+    ensures { λ s. ⌜ s ≡ saying nothing (toldOf n r) ⌝ }
+{
     let s = and(and(nothing(), n[0] as u64), r.code as u64);
     match n[0] {
         1 => and(s, of_record(made(n))),
-        10 | 11 => and(s, r.value as u64),
+        10 => and(s, r.value as u64),
+        11 => and(s, r.value as u64),
         13 => answered(s, r.answer),
         14 => and(and(s, r.made as u64), r.used as u64),
         _ => s,
@@ -170,13 +236,17 @@ fn told(n: [u32; 5], r: Reply) -> Said {
 }
 
 // The digest of the places that are lent.
-fn of_lent(places: u32, list: &[u16]) -> u64 {
+fn of_lent(places: u32, list: &[u16]) -> u64
+    ensures { λ r. ⌜ Below 2147483647 (digest (take places (now (list .entry)))) r ⌝ }
+{
     let k = lent(places, list.len());
     of_words(&list[..k])
 }
 
 // The line after the record: the window of orders 13 and 14, and the list of order 14.
-fn looked(s: Said, n: [u32; 5], places: u32, mem: &[u16], list: &[u16]) -> Said {
+fn looked(s: Said, n: [u32; 5], places: u32, mem: &[u16], list: &[u16]) -> Said
+    ensures { λ r. ⌜ r ≡ saying s (lookedOf n places (now (mem .entry)) (now (list .entry))) ⌝ }
+{
     if n[0] == 13 {
         return and(s, of_window(mem, n[1]));
     }
@@ -186,40 +256,43 @@ fn looked(s: Said, n: [u32; 5], places: u32, mem: &[u16], list: &[u16]) -> Said 
     s
 }
 
-// Orders 1 to 14: the unit after the call, which is printed.
-fn unit_order(d: Desk, n: [u32; 5], mem: &mut [u16], list: &mut [u16]) -> Mux {
+// The line of orders 1 to 14, of what the call left.
+fn unit_line(n: [u32; 5], r: Reply, u: Mux, places: u32, mem: &[u16], list: &[u16]) -> Said
+    ensures { λ s. ⌜ s ≡ saying nothing (unitSaid n r u places (now (mem .entry)) (now (list .entry))) ⌝ }
+{
+    looked(and(told(n, r), of_record(u)), n, places, mem, list)
+}
+
+// Orders 1 to 14: the call, which is printed.
+fn unit_order(d: Desk, n: [u32; 5], mem: &mut [u16], list: &mut [u16]) -> Desk
+    ensures { λ r. ⌜ kept r (now (mem .exit)) (now (list .exit)) ≡ unitOrder (kept d (now (mem .entry)) (now (list .entry))) n ⌝ }
+{
     let r = called_lent(d, mem, list, call_of(n));
     let u = standing(r.mux, n);
-    let s = and(told(n, r.reply), of_record(u));
-    print(looked(s, n, d.places, mem, list));
-    u
+    print(unit_line(n, r.reply, u, d.places, mem, list));
+    with_unit(d, u)
 }
 
 // Orders 22, 24 and 25: how many words are lent from now on, and pokes.
-fn desk_order(d: Desk, n: [u32; 5]) -> Desk {
-    let mut e = d;
+fn desk_order(d: Desk, n: [u32; 5]) -> Desk
+    ensures { λ r. ⌜ r ≡ deskOrder d n ⌝ }
+{
     if n[0] == 22 {
-        e.words = n[1];
+        return with_words(d, n[1]);
     }
     if n[0] == 24 {
-        e.unit = poked(d.unit, n[1], n[2]);
+        return with_unit(d, poked(d.unit, n[1], n[2]));
     }
     if n[0] == 25 {
-        e.unit = poked_port(d.unit, n[1], n[2], n[3]);
+        return with_unit(d, poked_port(d.unit, n[1], n[2], n[3]));
     }
-    e
-}
-
-// Order 23: every place set, and so many lent from now on.
-fn list_order(d: Desk, places: u32, value: u32, list: &mut [u16]) -> Desk {
-    set_all(list, (value % 65536) as u16);
-    let mut e = d;
-    e.places = places;
-    e
+    d
 }
 
 // Orders 20 to 25: what the host does.
-fn host_order(d: Desk, n: [u32; 5], mem: &mut [u16], list: &mut [u16]) -> Desk {
+fn host_order(d: Desk, n: [u32; 5], mem: &mut [u16], list: &mut [u16]) -> Desk
+    ensures { λ r. ⌜ kept r (now (mem .exit)) (now (list .exit)) ≡ hostOrder (kept d (now (mem .entry)) (now (list .entry))) n ⌝ }
+{
     if n[0] == 20 {
         write(mem, n[1], n[2]);
         return d;
@@ -229,17 +302,33 @@ fn host_order(d: Desk, n: [u32; 5], mem: &mut [u16], list: &mut [u16]) -> Desk {
         return d;
     }
     if n[0] == 23 {
-        return list_order(d, n[1], n[2], list);
+        set_all(list, (n[2] % 65536) as u16);
+        return with_places(d, n[1]);
     }
     desk_order(d, n)
 }
 
-// Orders 30 and 31: the whole digest; after 31 a new session begins.
-fn end_order(d: Desk, op: u32, mem: &mut [u16], list: &mut [u16]) -> Desk {
-    print(and(
-        and(and(nothing(), op as u64), of_words(mem)),
-        of_words(list),
-    ));
+// The line of order 26: the speed that a control byte asks for.
+fn speed_line(n: [u32; 5]) -> Said
+    ensures { λ r. ⌜ r ≡ saying nothing (speedSaid n) ⌝ }
+{
+    let control = (n[1] % 256) as u8;
+    and(and(nothing(), n[0] as u64), speed_of(control) as u64)
+}
+
+// The line of orders 30 and 31: the whole digest.
+fn whole_line(op: u32, mem: &[u16], list: &[u16]) -> Said
+    ensures { λ r. ⌜ r ≡ saying nothing (wholeSaid op (now (mem .entry)) (now (list .entry))) ⌝ }
+{
+    let s = and(and(nothing(), op as u64), of_words(mem));
+    and(s, of_words(list))
+}
+
+// Orders 30 and 31: the whole digest is printed; after 31 a new session begins.
+fn end_order(d: Desk, op: u32, mem: &mut [u16], list: &mut [u16]) -> Desk
+    ensures { λ r. ⌜ kept r (now (mem .exit)) (now (list .exit)) ≡ endOrder (kept d (now (mem .entry)) (now (list .entry))) op ⌝ }
+{
+    print(whole_line(op, mem, list));
     if op == 31 {
         set_all(mem, 0);
         set_all(list, 0);
@@ -249,11 +338,17 @@ fn end_order(d: Desk, op: u32, mem: &mut [u16], list: &mut [u16]) -> Desk {
 }
 
 // The order of the line that has been read.
-fn order(d: Desk, mem: &mut [u16], list: &mut [u16]) -> Desk {
+fn order(d: Desk, mem: &mut [u16], list: &mut [u16]) -> Desk
+    ensures { λ r. ⌜ kept r (now (mem .exit)) (now (list .exit)) ≡ order (kept d (now (mem .entry)) (now (list .entry))) ⌝ }
+{
     let l = d.line;
     let n = l.n;
     if n[0] < 20 {
-        return with_unit(d, unit_order(d, n, mem, list));
+        return unit_order(d, n, mem, list);
+    }
+    if n[0] == 26 {
+        print(speed_line(n));
+        return d;
     }
     if n[0] < 30 {
         return host_order(d, n, mem, list);
@@ -261,15 +356,10 @@ fn order(d: Desk, mem: &mut [u16], list: &mut [u16]) -> Desk {
     end_order(d, n[0], mem, list)
 }
 
-// The desk with the line as it is read so far.
-fn with_line(d: Desk, l: Line) -> Desk {
-    let mut e = d;
-    e.line = l;
-    e
-}
-
 // One byte of the text; a newline carries the order out.
-fn take_byte(d: Desk, b: u8, mem: &mut [u16], list: &mut [u16]) -> Desk {
+fn take_byte(d: Desk, b: u8, mem: &mut [u16], list: &mut [u16]) -> Desk
+    ensures { λ r. ⌜ kept r (now (mem .exit)) (now (list .exit)) ≡ takeByte (kept d (now (mem .entry)) (now (list .entry))) b ⌝ }
+{
     let l = d.line;
     let e = with_line(d, typed(l, b));
     if b == 10 {
@@ -279,7 +369,9 @@ fn take_byte(d: Desk, b: u8, mem: &mut [u16], list: &mut [u16]) -> Desk {
 }
 
 // A part of the text taken byte by byte.
-fn take(d: Desk, text: &[u8], mem: &mut [u16], list: &mut [u16]) -> Desk {
+fn take(d: Desk, text: &[u8], mem: &mut [u16], list: &mut [u16]) -> Desk
+    ensures { λ r. ⌜ kept r (now (mem .exit)) (now (list .exit)) ≡ played (kept d (now (mem .entry)) (now (list .entry))) (now (text .entry)) ⌝ }
+{
     let mut e = d;
     let mut i = 0;
     while i < text.len() {
@@ -289,15 +381,10 @@ fn take(d: Desk, text: &[u8], mem: &mut [u16], list: &mut [u16]) -> Desk {
     e
 }
 
-// The desk at the end of the text.
-fn closed(d: Desk) -> Desk {
-    let mut e = d;
-    e.open = false;
-    e
-}
-
 // Reads once and takes what came. Keeping the loop out of it lets the buffer be its own.
-fn turn(d: Desk, mem: &mut [u16], list: &mut [u16]) -> Desk {
+fn turn(d: Desk, mem: &mut [u16], list: &mut [u16]) -> Desk
+    ensures { λ r. ⌜ Turned (kept d (now (mem .entry)) (now (list .entry))) (kept r (now (mem .exit)) (now (list .exit))) ⌝ }
+{
     let mut buf = io::large_buffer();
     let got = libc::read(0, &mut buf);
     if got <= 0 {
@@ -308,10 +395,12 @@ fn turn(d: Desk, mem: &mut [u16], list: &mut [u16]) -> Desk {
 }
 
 // A proved loop has to end, and nothing says that the input does. So the loop counts its turns down, from a number that no run uses up.
-fn drive(mem: &mut [u16], list: &mut [u16]) {
+fn drive(mem: &mut [u16], list: &mut [u16])
+    ensures { λ _. ⌜ Driven (now (mem .entry)) (now (list .entry)) (now (mem .exit)) (now (list .exit)) ⌝ }
+{
     let mut d = new_desk();
     let mut turns = u64::MAX;
-    while turns > 0 && d.open {
+    while turns > 0 && d.going {
         d = turn(d, mem, list);
         turns -= 1;
     }

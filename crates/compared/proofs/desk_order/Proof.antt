@@ -1,0 +1,32 @@
+-- `compared::desk_order` meets its contract, in each arm.
+use borrow.Author.Tests.{eq-eqb, ne-eqb}
+use Rattle.ground.specs.Choose.{pick}
+use Rattle.compared.specs.Session.{deskOrder}
+use borrow.Author.Needs.{needs}
+use Rattle.compared.proofs.desk_order.Statement.{statement}
+use Rattle.compared.proofs.desk_order.Tie as tie
+
+returns : tie.Need-returns
+unfolding deskOrder pick
+returns c = rw (c .with-words .ensures, eq-eqb _ _ (c .before .if1 .taken))
+
+returns-2 : tie.Need-returns-2
+unfolding deskOrder pick
+returns-2 c = rw (c .with-unit .ensures, c .before .poked .ensures, ne-eqb _ _ (c .before .before .before .if1 .left), eq-eqb _ _ (c .before .before .if2 .taken))
+
+returns-3 : tie.Need-returns-3
+unfolding deskOrder pick
+returns-3 c = rw (c .with-unit2 .ensures, c .before .poked-port .ensures, ne-eqb _ _ (c .before .before .before .before .if1 .left), ne-eqb _ _ (c .before .before .before .if2 .left), eq-eqb _ _ (c .before .before .if3 .taken))
+
+returns-4 : tie.Need-returns-4
+unfolding deskOrder pick
+returns-4 c = rw (ne-eqb _ _ (c .before .before .if1 .left), ne-eqb _ _ (c .before .if2 .left), ne-eqb _ _ (c .if3 .left))
+
+pub desk-order-spec : {M : Type 1} → statement M
+desk-order-spec =
+    tie.close
+    (tie.spec
+    (λ c. search needs) (λ c. search needs) (λ c κs. search needs) returns (λ c. search needs) (λ c. search needs)
+    (λ c. search needs) (λ c κs. search needs) (λ c κs. search needs) returns-2 (λ c. search needs)
+    (λ c. search needs) (λ c. search needs) (λ c. search needs) (λ c κs. search needs) (λ c κs. search needs)
+    returns-3 returns-4)

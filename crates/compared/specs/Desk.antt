@@ -1,0 +1,47 @@
+-- What a driver keeps (tests/second/FORMAT.md, what a driver keeps).
+--   Kept                                               the desk, the memory and the list
+--   newDesk                                            the desk at the start of a session
+--   withUnit, withWords, withPlaces, withLine, closed  the desk with one part changed
+-- Not here: what an order makes of it, in Session.
+-- Assumes nothing.
+use mathlib.Core.Bool.{true, false}
+use mathlib.Core.List.{List}
+use Prim.Native.Nat.{ℕ}
+use Rattle.unit.specs.declared.mux.Mux.{Mux}
+use Rattle.unit.specs.Record.{noMux}
+use Rattle.driver.specs.declared.read.Line.{Line}
+use Rattle.driver.specs.Text.{blank}
+use Rattle.compared.specs.declared.Desk.{Desk}
+
+-- the desk, all the words of the memory, all the places of the list
+pub record Kept : Type 0 where
+  pub desk : Desk
+  pub memory : List ℕ
+  pub list : List ℕ
+
+abbrev pub kept : Desk → List ℕ → List ℕ → Kept
+kept d m xs = record { desk = d; memory = m; list = xs }
+
+-- at the start, and again after each end of session: the record of zeros, 32768 words lent and no place
+abbrev pub newDesk : Desk
+newDesk = record { going = true; line = blank; unit = noMux; words = 32768; places = 0 }
+
+-- another unit
+abbrev pub withUnit : Desk → Mux → Desk
+withUnit d u = record { going = d .going; line = d .line; unit = u; words = d .words; places = d .places }
+
+-- so many words lent
+abbrev pub withWords : Desk → ℕ → Desk
+withWords d k = record { going = d .going; line = d .line; unit = d .unit; words = k; places = d .places }
+
+-- so many places lent
+abbrev pub withPlaces : Desk → ℕ → Desk
+withPlaces d k = record { going = d .going; line = d .line; unit = d .unit; words = d .words; places = k }
+
+-- the line as it is read so far
+abbrev pub withLine : Desk → Line → Desk
+withLine d l = record { going = d .going; line = l; unit = d .unit; words = d .words; places = d .places }
+
+-- at the end of the text
+abbrev pub closed : Desk → Desk
+closed d = record { going = false; line = d .line; unit = d .unit; words = d .words; places = d .places }

@@ -1,0 +1,64 @@
+-- The numbers that a driver prints for an order (tests/second/FORMAT.md, the table of orders, its last column).
+--   saying                   numbers to print after those already gathered
+--   answerSaid, besideOf     what orders 1, 10, 11, 13 and 14 have between the code and the record
+--   toldOf                   the line up to the record
+--   lookedOf                 the line after the record
+--   unitSaid                 the line of orders 1 to 14
+--   speedSaid                the line of order 26
+--   wholeSaid                the line of orders 30 and 31
+-- Not here: the bytes of a line, in Printed of the crate driver.
+-- Assumes nothing.
+use mathlib.Core.List.{List, [], _∷_, _++_, foldl}
+use Prim.Native.Nat.{ℕ, _%_}
+use lib.Dec.{eqb}
+use lib.ListN.{take}
+use Rattle.ground.specs.Choose.{pick, bit}
+use Rattle.words.specs.Speed.{speedOf}
+use Rattle.unit.specs.declared.mux.Mux.{Mux}
+use Rattle.unit.specs.declared.reply.Answer.{Answer}
+use Rattle.unit.specs.declared.reply.Reply.{Reply}
+use Rattle.unit.specs.Reply.{turnNumber}
+use Rattle.unit.specs.Setup.{setup}
+use Rattle.driver.specs.declared.say.Said.{Said}
+use Rattle.driver.specs.Digest.{digest, recordDigest, windowDigest}
+use Rattle.driver.specs.Printed.{and}
+use Rattle.compared.specs.Orders.{nth, settingOf}
+
+-- numbers to print after those already gathered
+abbrev pub saying : Said → List ℕ → Said
+saying s xs = foldl and s xs
+
+-- order 13: turn port sent byte raised
+abbrev pub answerSaid : Answer → List ℕ
+answerSaid a = turnNumber (a .turn) ∷ a .port ∷ bit (a .sent) ∷ a .byte ∷ bit (a .raised) ∷ []
+
+-- order 1: made; orders 10 and 11: value; order 13: the answer; order 14: made used
+unfoldable pub besideOf : List ℕ → Reply → List ℕ
+besideOf n r =
+    pick (eqb (nth n 0) 1) (recordDigest (setup (settingOf n) .mux) ∷ [])
+    (pick (eqb (nth n 0) 10) (r .value ∷ [])
+    (pick (eqb (nth n 0) 11) (r .value ∷ [])
+    (pick (eqb (nth n 0) 13) (answerSaid (r .answer))
+    (pick (eqb (nth n 0) 14) (r .made ∷ r .used ∷ []) []))))
+
+-- the opcode, the code, and what the order has beside it
+abbrev pub toldOf : List ℕ → Reply → List ℕ
+toldOf n r = nth n 0 ∷ r .code ∷ besideOf n r
+
+-- order 13 look: window; order 14 n look: window list
+unfoldable pub lookedOf : List ℕ → ℕ → List ℕ → List ℕ → List ℕ
+lookedOf n places m xs =
+    pick (eqb (nth n 0) 13) (windowDigest m (nth n 1) ∷ [])
+    (pick (eqb (nth n 0) 14) (windowDigest m (nth n 2) ∷ digest (take places xs) ∷ []) [])
+
+-- orders 1 to 14, of the reply and of unit, memory and list after the order
+abbrev pub unitSaid : List ℕ → Reply → Mux → ℕ → List ℕ → List ℕ → List ℕ
+unitSaid n r u places m xs = toldOf n r ++ (recordDigest u ∷ lookedOf n places m xs)
+
+-- order 26 control: speed
+abbrev pub speedSaid : List ℕ → List ℕ
+speedSaid n = nth n 0 ∷ speedOf (nth n 1 % 256) ∷ []
+
+-- orders 30 and 31: memory places
+abbrev pub wholeSaid : ℕ → List ℕ → List ℕ → List ℕ
+wholeSaid op m xs = op ∷ digest m ∷ digest xs ∷ []
