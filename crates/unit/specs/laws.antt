@@ -1,7 +1,7 @@
 -- What follows from the definitions of the record and the refusals. Nothing here need be believed.
 --   Refusals   each number exactly when its row applies and none before it; a call's number part by part
 --   Sound      refusal 0 is soundness, of each kind of call; the one law for every change of a record
---   Replies    what a refused call leaves, and one that is not
+--   Replies    the number of each answer; what a refused call leaves, and one that is not
 --   Ports      the ports of a record
 pub mod Refusals
 pub mod Sound

@@ -22,7 +22,7 @@
 --   | REAL-TIME | MORE-THAN-ONE | INPUT-DONE | OUTPUT-DONE | PORT-ADDRESS | STATUS-UNUSED |
 --   +-----------+---------------+------------+-------------+--------------+---------------+
 -- Words 4, 5, 6 and 7 of a block are IBP, OBP, LIB and LOB, whole byte addresses (001, 4.3 to 4.6).
--- Not here: that these are bytes, in laws/Codes.
+-- Not here: that the fields of a word leave nothing out, and that the bytes of 7-bit ASCII mode are bytes, in laws/Codes.
 -- Assumes nothing.
 use mathlib.Core.Bool.{Bool}
 use Prim.Native.Nat.{ℕ, _+_, _%_}

@@ -1,5 +1,5 @@
--- The eight speeds (document 01, last line of the sweep; 001, 4.2 bits 13 to 15).
--- Not here: what a speed is for: no call reads it yet.
+-- The eight speeds (document 01, last line of the sweep; 001, 4.2 bits 13 to 15). No call reads the speed yet.
+-- Not here: what a speed is for.
 -- Assumes nothing.
 use mathlib.Core.List.{List, [], _∷_}
 use Prim.Native.Nat.{ℕ}

@@ -1,6 +1,6 @@
 -- What follows from the definitions of words and pointers. Nothing here need be believed.
 --   Field    a bit field: written and read back, and the fields beside it
---   Codes    what 7-bit ASCII mode makes of a byte is a byte
+--   Codes    each word is its fields side by side; the codes of two bits; what 7-bit ASCII mode makes of a byte is a byte
 --   Byte     bytes in the host's memory: read back, and all others as they were
 --   Length   every length has a code
 pub mod Field

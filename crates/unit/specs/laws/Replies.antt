@@ -1,23 +1,31 @@
--- What a refused call leaves, and one that is not (document 01, below the table of refusals).
---   guarded-refused, -done    a refused call gives its number, 0 and the same record; another what it does
---   either-way                what holds of the record itself and of the record after holds of what a call leaves
---   Answered, guarded-answers a reply that has the number k, and keeps the record where k is a refusal
---   setup-accepted, -refused      of setup: a fresh unit, or the number and the record of zeros
+-- The number of each answer; what a call leaves, refused or not (document 01, below the table of refusals).
+--   turn-numbers                 every answer of an inspection with its number
+--   guarded-refused, -accepted   a refused call gives its number, 0 and the same record; another what it does
+--   either-way                   what holds of the record itself and of the record after holds of what a call leaves
+--   Answered, guarded-answers    a reply that has the number k, and keeps the record where k is a refusal
+--   setup-accepted, -refused     of setup: a fresh unit, or the number and the record of zeros
 -- Not here: what a reply is, in specs/Reply; that every call answers so, in calls, laws/Refusals.
 -- Assumes nothing.
 use mathlib.Core.Path.{_≡_, refl, sym}
+use mathlib.Core.List.{List, [], _∷_, map}
 use Prim.Native.Nat.{ℕ}
 use native.Mathlib.Decide.{ℕ-discrete}
 use lib.Dec.{eqb}
 use borrow.Author.Tests.{eq-eqb, ne-eqb}
 use Rattle.ground.specs.laws.Rows.{pick-true, pick-false}
+use Rattle.interrupt.specs.declared.Service.the-variants.{Input, Output}
 use Rattle.unit.specs.declared.mux.Setting.{Setting}
 use Rattle.unit.specs.declared.mux.Mux.{Mux}
+use Rattle.unit.specs.declared.reply.Turn.the-variants.{Nothing, Idle, Served}
 use Rattle.unit.specs.declared.reply.Replied.{Replied}
 use Rattle.unit.specs.Record.{fresh, noMux}
-use Rattle.unit.specs.Reply.{refused, accepted, guarded}
+use Rattle.unit.specs.Reply.{turnNumber, refused, accepted, guarded}
 use Rattle.unit.specs.Refusals.{refusal, ofSetup}
 use Rattle.unit.specs.Setup.{setup}
+
+-- a stopped or refused inspection, a turn that serves nothing, input, output
+pub turn-numbers : map turnNumber (Nothing ∷ Idle ∷ Served Input ∷ Served Output ∷ []) ≡ 0 ∷ 1 ∷ 2 ∷ 3 ∷ []
+turn-numbers = refl
 
 -- a refused call gives its number, no further result and the same record
 pub guarded-refused : (k : ℕ) (u : Mux) (r : Replied) → (k ≡ 0 → ⊥) → guarded k u r ≡ refused k u
