@@ -1,6 +1,7 @@
 -- A sweep is the inspections that it makes: a list of events comes to a list of single things, with the same world after it.
 --   run-singles     running the events is running the single things that they come to
 --   singles-single  every list of single things is what some events come to
+--   write-is        a host write puts in its words, leaves the record and answers nothing
 --   sweep-counts    a sweep that is not refused makes exactly as many counted turns as it says
 -- Not here: what an event and a single thing are, in specs/Events; how long anybody waits, in waiting.
 -- Assumes nothing.
@@ -17,7 +18,7 @@ use Rattle.ground.specs.Machine
 use Rattle.ground.specs.Machine.{total, tally}
 use Rattle.ground.specs.laws.Machine.{run-append}
 use Rattle.unit.specs.declared.mux.Setting.{Setting}
-use Rattle.unit.specs.Reply.{World, world}
+use Rattle.unit.specs.Reply.{nothing, World, world}
 use Rattle.unit.specs.Refusals.{WORDS, refusal, ofSweep}
 use Rattle.unit.specs.Sound.{Sound}
 use Rattle.unit.specs.laws.Sound.{sweep-iff}
@@ -134,3 +135,8 @@ singles-single w [] = refl
 singles-single w (setsUp s ∷ xs) = ap (λ l. setsUp s ∷ l) (singles-single _ xs)
 singles-single w (does a ∷ xs) = ap (λ l. does a ∷ l) (singles-single _ xs)
 singles-single w (writes m ∷ xs) = ap (λ l. writes m ∷ l) (singles-single _ xs)
+
+-- a host write puts in its words, leaves the record and answers nothing
+pub write-is : (w : World) (m : List ℕ) → result w (writes m) ≡ record { reply = record { code = 0; value = 0; answer = nothing; made = 0; used = 0 }; world = world (w .mux) m }
+unfolding result
+write-is w m = refl
