@@ -139,15 +139,19 @@ pub record First (p : ℕ) (w : World) (xs : List Single) : Type 0 where
 abbrev pub Second : ℕ → World → List Single → Type 0
 Second p w xs = turns w xs < (inputs p w xs + 1) * P w
 
--- C held at every moment, within the bound, until a single thing of the list ended it
+-- the unit runs, and C holds
+abbrev pub While : (World → Type 0) → World → Type 0
+While C w = Running w × C w
+
+-- the unit ran and C held at every moment, within the bound, until a single thing of the list ended it
 pub record Ended (C : World → Type 0) (Bound : World → List Single → Type 0) (End : World → Single → Type 0) (w : World) (xs : List Single) : Type 0 where
-  pub wait : Until after C w xs
+  pub wait : Until after (While C) w xs
   pub bound : Bound w (wait .before)
   pub end : End (runSingles w (wait .before)) (wait .here)
 
--- C holds at every moment, within the bound
+-- the unit runs and C holds at every moment, within the bound
 pub record Lasts (C : World → Type 0) (Bound : World → List Single → Type 0) (w : World) (xs : List Single) : Type 0 where
-  pub still : Throughout after C w xs
+  pub still : Throughout after (While C) w xs
   pub bound : Bound w xs
 
 -- ---- a held character

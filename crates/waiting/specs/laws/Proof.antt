@@ -34,7 +34,7 @@ use Rattle.calls.specs.laws.Singles.{run-singles, singles-single, sweep-counts}
 use Rattle.calls.specs.laws.Places.{setup-places, keeps-places}
 use Rattle.door.specs.laws.Door.{made-run}
 use Rattle.waiting.specs.Counting.{turnAt, inputAt, takesAt, holdsAt}
-use Rattle.waiting.specs.Waiting.{P, Running, Holds, Empty, Turn, Takes, Stops, turns, inputs, First, Second, InputTurn, Replacement, Served, Replaced, Fate, Echo, Handed, OutputFate, Places, Rotation, HeldCharacter, FirstBound, EmptyTransmitter, SecondBound, Demand}
+use Rattle.waiting.specs.Waiting.{P, Running, Holds, Empty, Turn, Takes, Stops, turns, inputs, First, Second, While, InputTurn, Replacement, Served, Replaced, Fate, Echo, Handed, OutputFate, Places, Rotation, HeldCharacter, FirstBound, EmptyTransmitter, SecondBound, Demand}
 use Rattle.waiting.specs.laws.View.{Stays, Leaves, leaves-same, Tested, View, turn, arrives, clear, stop, quiet, view, turn-moves}
 use Rattle.waiting.specs.laws.Tests.{counts-names, tests}
 use Rattle.waiting.specs.laws.Balance.{own-left, keeps-place, balance, not-again}
@@ -107,13 +107,13 @@ module _ (p : ℕ) (own barred : World → Single → Bool) (C : World → Type 
       go (quiet d s l) = stays (k .free w a (d .takes)) (d .counts) s (k .left w (after w a) l (o .meanwhile))
 
   -- so over any list it ends or goes on, within the bound
-  waits-for : Wait → (w : World) (xs : List Single) → Running w → p < P w → C w → Outcome after at (P w) p counted own barred C End (P w - 1) w xs
+  waits-for : Wait → (w : World) (xs : List Single) → Running w → p < P w → C w → Outcome after at (P w) p counted own barred (While C) End (P w - 1) w xs
   waits-for k w xs r b c =
       go (bound after at (P w) p counted own barred (On (P w)) End (on-below (P w)) (goes k (P w)) w xs b (record { running = r; ports = refl; meanwhile = c }))
     where
-      go : Outcome after at (P w) p counted own barred (On (P w)) End (P w - 1) w xs → Outcome after at (P w) p counted own barred C End (P w - 1) w xs
-      go (ended u e f) = ended (until-map after (On (P w)) C (λ v o. o .meanwhile) w xs u) e (record { none-barred = f .none-barred; few = f .few })
-      go (waits t f) = waits (throughout-map after (On (P w)) C (λ v o. o .meanwhile) w xs t) (record { none-barred = f .none-barred; few = f .few })
+      go : Outcome after at (P w) p counted own barred (On (P w)) End (P w - 1) w xs → Outcome after at (P w) p counted own barred (While C) End (P w - 1) w xs
+      go (ended u e f) = ended (until-map after (On (P w)) (While C) (λ v o. (o .running, o .meanwhile)) w xs u) e (record { none-barred = f .none-barred; few = f .few })
+      go (waits t f) = waits (throughout-map after (On (P w)) (While C) (λ v o. (o .running, o .meanwhile)) w xs t) (record { none-barred = f .none-barred; few = f .few })
 
 -- ---- a held character
 
@@ -146,15 +146,15 @@ input-fate : HeldCharacter
 unfolding none
 input-fate w p c xs r b h = go (waits-for p none (takesAt p) (Holds p c) (HeldEnd p) (held-wait p c (omega (arith, r .sound .setting .size .few-ports))) w xs r b h)
   where
-    first : (ys : List Single) → Within after at (P w) p counted none (takesAt p) (Holds p c) (HeldEnd p) (P w - 1) w ys → First p w ys
+    first : (ys : List Single) → Within after at (P w) p counted none (takesAt p) (While (Holds p c)) (HeldEnd p) (P w - 1) w ys → First p w ys
     first ys f = record { alone = f .none-barred; soon = omega (arith, rw (never after w ys) at (f .few)) }
 
-    at-end : (u : Until after (Holds p c) w xs) → First p w (u .before) → HeldEnd p (runSingles w (u .before)) (u .here) → Fate p c w xs
+    at-end : (u : Until after (While (Holds p c)) w xs) → First p w (u .before) → HeldEnd p (runSingles w (u .before)) (u .here) → Fate p c w xs
     at-end u f (taken e) = Fate.served (record { wait = u; bound = f; end = e })
     at-end u f (pushed e) = Fate.replaced (record { wait = u; bound = f; end = e })
     at-end u f (HeldEnd.stopped e) = Fate.broken (record { wait = u; bound = f; end = e })
 
-    go : Outcome after at (P w) p counted none (takesAt p) (Holds p c) (HeldEnd p) (P w - 1) w xs → Fate p c w xs
+    go : Outcome after at (P w) p counted none (takesAt p) (While (Holds p c)) (HeldEnd p) (P w - 1) w xs → Fate p c w xs
     go (ended u e f) = at-end u (first (u .before) f) e
     go (waits t f) = Fate.waits (record { still = t; bound = first xs f })
 
@@ -205,15 +205,15 @@ free-wait p =
 output-fate : EmptyTransmitter
 output-fate w p xs r b h = go (waits-for p (inputAt p) none (Empty p) (FreeEnd p) (free-wait p) w xs r b h)
   where
-    second : (ys : List Single) → Within after at (P w) p counted (inputAt p) none (Empty p) (FreeEnd p) (P w - 1) w ys → Second p w ys
+    second : (ys : List Single) → Within after at (P w) p counted (inputAt p) none (While (Empty p)) (FreeEnd p) (P w - 1) w ys → Second p w ys
     second ys f = omega (arith, f .few)
 
-    at-end : (u : Until after (Empty p) w xs) → Second p w (u .before) → FreeEnd p (runSingles w (u .before)) (u .here) → OutputFate p w xs
+    at-end : (u : Until after (While (Empty p)) w xs) → Second p w (u .before) → FreeEnd p (runSingles w (u .before)) (u .here) → OutputFate p w xs
     at-end u f (given e) = OutputFate.handed (record { wait = u; bound = f; end = e })
     at-end u f (filled e) = OutputFate.echoed (record { wait = u; bound = f; end = e })
     at-end u f (FreeEnd.stopped e) = OutputFate.broken (record { wait = u; bound = f; end = e })
 
-    go : Outcome after at (P w) p counted (inputAt p) none (Empty p) (FreeEnd p) (P w - 1) w xs → OutputFate p w xs
+    go : Outcome after at (P w) p counted (inputAt p) none (While (Empty p)) (FreeEnd p) (P w - 1) w xs → OutputFate p w xs
     go (ended u e f) = at-end u (second (u .before) f) e
     go (waits t f) = OutputFate.waits (record { still = t; bound = second xs f })
 
@@ -317,7 +317,7 @@ handed-fate w p k xs r b e few no-echo calm enough = go (output-fate w p xs r b 
   where
     go : OutputFate p w xs → (h : Handed p w xs) × (turns w (h .wait .before) < (k + 1) * P w)
     go (OutputFate.handed s) =
-        let i : inputs p w (s .wait .before) + 1 ≤ k + 1 = omega (arith, until-le after (λ v a. bit (inputAt p v a)) (Empty p) w xs (s .wait)) in
+        let i : inputs p w (s .wait .before) + 1 ≤ k + 1 = omega (arith, until-le after (λ v a. bit (inputAt p v a)) (While (Empty p)) w xs (s .wait)) in
         (s, omega (arith, s .bound, mul-le-mul-right (P w) i))
     go (OutputFate.echoed s) = absurd (no-echo s)
     go (OutputFate.broken s) = absurd (calm s)
