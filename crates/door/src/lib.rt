@@ -6,11 +6,11 @@ use unit::reply::Reply;
 ghost use mathlib.Core.Path.{_≡_};
 ghost use Rattle.unit.specs.Reply.{world, outcome};
 ghost use Rattle.calls.specs.Calls.{step};
-ghost use Rattle.door.specs.Door.{lent};
+ghost use Rattle.door.specs.Door.{Meets};
 
 // One call on the lent record.
 pub fn call(u: &mut Mux, mem: &mut [u16], list: &mut [u16], c: Call) -> Reply
-    ensures { λ r. ⌜ lent r (now (u .exit)) (now (mem .exit)) (now (list .exit)) ≡ step (world (now (u .entry)) (now (mem .entry))) (now (list .entry)) c ⌝ }
+    ensures { λ r. ⌜ Meets (world (now (u .entry)) (now (mem .entry))) (now (list .entry)) c r (now (u .exit)) (now (mem .exit)) (now (list .exit)) ⌝ }
 {
     let s = calls::step(*u, mem, list, c);
     *u = s.mux;

@@ -15,11 +15,11 @@ use Rattle.unit.specs.declared.reply.Replied.{Replied}
 use Rattle.unit.specs.Reply.{nothing, World, world, Outcome}
 use Rattle.unit.specs.Refusals.{refusal}
 use Rattle.calls.specs.declared.call.Call.{Call}
-use Rattle.calls.specs.Calls.{step, givenOf}
+use Rattle.calls.specs.Calls.{givenOf}
 use Rattle.calls.specs.Events.{Event, happens, run}
 use Rattle.calls.specs.laws.Refusals.{step-refuses}
 use Rattle.calls.specs.laws.Outcomes.{one-outcome}
-use Rattle.door.specs.Door.{lent, Made, ready, called, written}
+use Rattle.door.specs.Door.{Meets, Made, ready, called, written}
 
 -- the record v, the memory n and the list ys are u, m and xs, and the reply has no further result
 pub record AsItWas (u v : Mux) (m n xs ys : List ℕ) (r : Reply) : Type 0 where
@@ -31,7 +31,7 @@ pub record AsItWas (u v : Mux) (m n xs ys : List ℕ) (r : Reply) : Type 0 where
   pub made : r .made ≡ 0
   pub used : r .used ≡ 0
 
-module _ (u v : Mux) (m n xs ys : List ℕ) (c : Call) (r : Reply) (e : lent r v n ys ≡ step (world u m) xs c) where
+module _ (u v : Mux) (m n xs ys : List ℕ) (c : Call) (r : Reply) (e : Meets (world u m) xs c r v n ys) where
   -- the number is the table's
   pub call-number : r .code ≡ refusal (givenOf (world u m) xs (c .setting) (c .what))
   call-number = ap (λ (o : Outcome). o .reply .code) e ∙ step-refuses (world u m) xs c .number
@@ -60,8 +60,8 @@ pub record Same (r s : Reply) (u v : Mux) (m n xs ys : List ℕ) : Type 0 where
 -- whatever two outcomes meet the door's contract are the same
 pub call-one :
     (u : Mux) (m xs : List ℕ) (c : Call) (r s : Reply) (u₁ u₂ : Mux) (m₁ m₂ xs₁ xs₂ : List ℕ) →
-    lent r u₁ m₁ xs₁ ≡ step (world u m) xs c →
-    lent s u₂ m₂ xs₂ ≡ step (world u m) xs c →
+    Meets (world u m) xs c r u₁ m₁ xs₁ →
+    Meets (world u m) xs c s u₂ m₂ xs₂ →
     Same r s u₁ u₂ m₁ m₂ xs₁ xs₂
 call-one u m xs c r s u₁ u₂ m₁ m₂ xs₁ xs₂ p q =
     let one = one-outcome .step-one (world u m) xs c (record { reply = r; mux = u₁ }) (record { reply = s; mux = u₂ }) m₁ m₂ xs₁ xs₂ p q in
