@@ -1,3 +1,5 @@
 -- What follows from the definitions of the output service. Nothing here need be believed.
---   Kept   what a service may change in the memory, and that it changes nothing else
+--   Kept    what a service may change in the memory, and that it changes nothing else
+--   Modes   the plan of each mode, by the mode's name
 pub mod Kept
+pub mod Modes

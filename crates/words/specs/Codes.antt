@@ -163,7 +163,7 @@ DEVICE-STATUS = bits 4 4
 abbrev pub PREVIOUS-STATUS : Field
 PREVIOUS-STATUS = bits 5 5
 
--- bit 6: unused, 0 (4.2 bit 6)
+-- bit 6: unused, 0 (4.2 bit 6; D15)
 abbrev pub UNUSED : Field
 UNUSED = bits 6 6
 
