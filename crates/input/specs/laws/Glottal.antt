@@ -3,7 +3,7 @@
 --   Told, Reported       a character reaches the host by ICW and one interrupt, and by nothing else
 --   special, with-error  so does a special code, with an error or without, and any code with an error
 --   Bar, glottal-stop    so the glottal stop is reported once, as octal 374 with its error code, and never stored or echoed
---   glottal-stop-marked  also where it replaced a held character: it has the overload code
+--   glottal-stop-marked, marked-code   also where it replaced a held character: it has the overload code
 --   Stored, ordinary     any other code is stored once, and ICW is left alone unless the character is done
 --   Replaced, replaced   a character that finds INDONE set replaces the one in ICW, and bit 7 says that one was lost
 --   glottal-stop-lost    so a glottal stop that the host did not take in time is lost, and the loss is marked
@@ -33,7 +33,7 @@ use Rattle.unit.specs.Refusals.{WORDS}
 use Rattle.input.specs.declared.plan.Plan.{Plan}
 use Rattle.input.specs.Input.{errorCode, ascii, replacedICW, doneICW, replacedPlan, donePlan, storedPlan, inputPlan, carried, inputService}
 use Rattle.input.specs.laws.Word.{code-fits, done-character, done-mark, done-flags, done-ascii, done-mode, done-overload, done-done, replaced-character, replaced-overload, replaced-flags, replaced-done}
-use Rattle.input.specs.laws.Kept.{icwOf, lastOf, codeOf, planOf, nextOf, after, kept-length, Unstored, not-taken, in-error, special-code, kept-unstored}
+use Rattle.input.specs.laws.Kept.{icwOf, lastOf, codeOf, planOf, nextOf, after, kept-length, Unstored, indone-set, in-error, special-code, kept-unstored}
 
 -- the echo that the mode asks for finds the transmitter busy
 abbrev pub busyOf : List ℕ → ℕ → Port → Bool
@@ -154,7 +154,7 @@ module _ (m : List ℕ) (a : ℕ) (q : Port) (placed : Placed m a) (h : Automati
   pub with-error : codeOf q ≢ flagNone → Reported m a q (codeOf q) (128 + q .ch .byte % 128)
   with-error n = reported (rw (ne-eqb (codeOf q) flagNone n)) (in-error n)
 
--- the port's character is the glottal stop, low ascii bits octal 174, and has that error code
+-- the port's character is the glottal stop, low seven bits octal 174, and has that error code
 pub record Bar (q : Port) (code : ℕ) : Type 0 where
   pub bar : q .ch .byte % 128 ≡ 0o174
   pub coded : codeOf q ≡ code
@@ -169,7 +169,11 @@ pub bar-marked : (q : Port) → q .ch .byte % 128 ≡ 0o174 → q .ch .overload 
 unfolding errorCode pick
 bar-marked q e o = record { bar = e; coded = rw o }
 
--- and is reported with the overload code; still neither stored nor echoed
+-- so the mark decides the code
+pub marked-code : (q : Port) (code : ℕ) → Bar q code → q .ch .overload ≡ true → code ≡ flagOverload
+marked-code q code k o = sym (k .coded) ∙ bar-marked q (k .bar) o .coded
+
+-- and it is reported with the overload code; still neither stored nor echoed
 pub glottal-stop-marked : (m : List ℕ) (a : ℕ) (q : Port) → Placed m a → Automatic m a → q .ch .byte % 128 ≡ 0o174 → q .ch .overload ≡ true → Reported m a q flagOverload 0o374
 glottal-stop-marked m a q p h e o = glottal-stop m a q flagOverload p h (bar-marked q e o)
 
@@ -251,7 +255,7 @@ takes m a q h byte d =
       lost-one = ap (get SERVICE-OVERLOAD) there ∙ replaced-overload icw (codeOf q) c fits byte;
       flags = ap (get FLAGS) there ∙ replaced-flags icw (codeOf q) c fits byte;
       still-done = ap (get INDONE) there ∙ replaced-done icw (codeOf q) c fits byte ∙ d;
-      same-words = λ k. kept-unstored m a q k (not-taken d);
+      same-words = λ k. kept-unstored m a q k (indone-set d);
     }
 
 pub replaced : (m : List ℕ) (a : ℕ) (q : Port) → Placed m a → q .ch .byte < 256 → get INDONE (icwOf m a) ≡ 1 → Replaced m a q

@@ -119,7 +119,7 @@ kept-planned m a q k e i = stores-none (planOf m a q) a (nextOf m a) m k e i
 
 -- steps 1 to 5 in order, each by its own condition as the plan reads it; none asks that those before it were passed
 pub data Unstored (m : List ℕ) (a : ℕ) (q : Port) : Type 0 where
-  not-taken : get INDONE (icwOf m a) ≡ 1 → Unstored m a q
+  indone-set : get INDONE (icwOf m a) ≡ 1 → Unstored m a q
   no-input : get INMO (icwOf m a) ≡ inNone → Unstored m a q
   single : get INMO (icwOf m a) ≡ inSingle → Unstored m a q
   in-error : codeOf q ≢ flagNone → Unstored m a q
@@ -131,7 +131,7 @@ Leaves p = p .store ≡ false
 
 pub plan-leaves : (m : List ℕ) (a : ℕ) (q : Port) → Unstored m a q → planOf m a q .store ≡ false
 unfolding inputPlan replacedPlan donePlan ascii pick
-plan-leaves m a q (not-taken e) = rw e
+plan-leaves m a q (indone-set e) = rw e
 plan-leaves m a q (no-input e) = either Leaves (eqb (get INDONE (icwOf m a)) 1) _ _ refl (rw e)
 plan-leaves m a q (single e) = either Leaves (eqb (get INDONE (icwOf m a)) 1) _ _ refl (rw e)
 plan-leaves m a q (in-error n) =

@@ -2,7 +2,7 @@
 --   Waits         the port whose turn it is holds the glottal stop, in 7-bit ASCII automatic mode with INDONE clear
 --   Delivered     what the host and the record have of it afterwards
 --   glottal-seen  every such inspection leaves that; of the turns before it nothing is asked
---   marked-waits, glottal-seen-marked   one that replaced a held character: the same, with the overload code
+--   glottal-seen-marked   one that replaced a held character: the same, with the overload code
 -- Not here: the service itself, in laws/Glottal of input; a sweep and a call that inspect, in laws/Glottal of sweep and of door.
 -- Assumes nothing.
 use mathlib.Core.Path.{_≡_, refl, ap, _∙_, subst}
@@ -22,7 +22,7 @@ use Rattle.unit.specs.Sound.{Sound}
 use Rattle.unit.specs.laws.Sound.{block-inside}
 use Rattle.unit.specs.laws.Ports.{held-inside}
 use Rattle.words.specs.Codes.{flagOverload}
-use Rattle.input.specs.laws.Glottal.{Placed, Automatic, Told, Bar, glottal-stop, bar-marked}
+use Rattle.input.specs.laws.Glottal.{Placed, Automatic, Told, Bar, marked-code, glottal-stop}
 use Rattle.scan.specs.Turn.{service, servedTurn, irqAfter}
 use Rattle.scan.specs.Scan.{serviceTurn, inspection}
 use Rattle.scan.specs.laws.Scan.{sound-scans, scanned-input, Moves, scan-moves, turn-takes, service-empty}
@@ -84,17 +84,5 @@ glottal-seen u m p code h = subst (λ (r : ℕ). Waits u m r code → Delivered 
     here w = rw (sound-scans u m (w .sound) (w .runs) (w .words), scanned-input u m (w .held)) (at-position u m code w)
 
 -- one that replaced a held character has the error code overload
-pub marked-waits : (u : Mux) (m : List ℕ) (p code : ℕ) → Waits u m p code → portAt u p .ch .overload ≡ true → Waits u m p flagOverload
-marked-waits u m p code h o =
-    record {
-      sound = h .sound;
-      runs = h .runs;
-      words = h .words;
-      turn = h .turn;
-      held = h .held;
-      bar = bar-marked (portAt u p) (h .bar .bar) o;
-      mode = h .mode;
-    }
-
 pub glottal-seen-marked : (u : Mux) (m : List ℕ) (p code : ℕ) → Waits u m p code → portAt u p .ch .overload ≡ true → Delivered u m p flagOverload (inspection u m)
-glottal-seen-marked u m p code h o = glottal-seen u m p flagOverload (marked-waits u m p code h o)
+glottal-seen-marked u m p code h o = rw (marked-code (portAt u p) code (h .bar) o) at (glottal-seen u m p code h)

@@ -235,7 +235,7 @@ looks-keep C e (more {s = s} r i rest) c = looks-keep C e rest (e (s .mux) (s .m
 
 -- ---- the call
 
--- a refused sweep gives its number, and counts and list 0 and as they were
+-- a refused sweep gives its number; its counts are 0 and its list is as it was
 pub sweep-refused : (u : Mux) (m : List ℕ) (n : ℕ) (xs : List ℕ) → (refusal (ofSweep u m n xs) ≡ 0 → ⊥) → sweep u m n xs ≡ outcome (refused (refusal (ofSweep u m n xs)) u) m xs
 unfolding sweep
 sweep-refused u m n xs h =
