@@ -13,7 +13,7 @@ use Prim.Native.Nat.{ℕ}
 use lib.ListN.{replicate}
 use Rattle.ground.specs.Machine
 use Rattle.unit.specs.declared.mux.Setting.{Setting}
-use Rattle.unit.specs.Reply.{counts, refused, World, world, Looked, looked}
+use Rattle.unit.specs.Reply.{counts, nothing, answered, World, world, Looked, looked}
 use Rattle.unit.specs.Setup.{setup}
 use Rattle.sweep.specs.Sweep.{sweep}
 use Rattle.calls.specs.declared.call.Act.{Act}
@@ -50,7 +50,7 @@ pub data Single : Type 0 where
 unfoldable pub result : World → Single → Looked
 result w (setsUp s) = looked (setUp (w .mux) (setup s)) (w .memory)
 result w (does a) = performed w a
-result w (writes m) = looked (refused 0 (w .mux)) m
+result w (writes m) = looked (answered nothing (w .mux)) m
 
 -- the world after one single thing, and after a list of them
 abbrev pub after : World → Single → World

@@ -3,7 +3,7 @@
 --   switched               the other orders change only switches and the interrupt side
 --   valueOf, after         what each order returns, and the record after it
 --   order                  the call, which refuses an unsound record
---   isReset, stops         the order that drops what is held; the orders that stop a unit
+--   isReset                the order that drops what the ports hold
 -- Not here: what START, DIA, a tick and a reset do inside the interrupt side, in interrupt, Interrupt; what follows, in laws/Processor.
 -- Assumes nothing.
 use mathlib.Core.Bool.{Bool, true, false}
@@ -80,14 +80,3 @@ isReset Dob = false
 isReset Dia = false
 isReset Dias = false
 isReset Tick = false
-
--- the orders that stop a unit that runs
-abbrev pub stops : Order → Bool
-stops Reset = true
-stops Iopls = false
-stops Start = false
-stops Doc = false
-stops Dob = true
-stops Dia = false
-stops Dias = false
-stops Tick = false

@@ -1,6 +1,6 @@
--- What a single thing is, where it is made, for whoever counts: tests, each a yes or a no.
+-- Yes-or-no tests of a single thing in the world that it meets, for whoever counts.
 --   turnAt, serviceAt, inputAt, outputAt   port p's turn, and one that goes to a service, by what is answered
---   takesAt, breaks                        a character that port p takes; a stop, a reset or a new setup; by what is asked and not refused
+--   takesAt                                a character that port p takes, by what is asked and not refused
 --   replacesAt, dropsAt                    a held character that another replaces; one that a reset or a new setup drops
 -- Not here: inspections that count, in calls, Events; where each test is true, in Waiting, Tests.
 -- Assumes nothing.
@@ -14,7 +14,7 @@ use Rattle.unit.specs.Record.{portAt}
 use Rattle.unit.specs.Reply.{turnNumber, World}
 use Rattle.lines.specs.declared.signal.Signal.{Signal}
 use Rattle.lines.specs.declared.signal.Signal.the-variants.{Arrival, TransmitterEmpty, DeviceStatus}
-use Rattle.processor.specs.Processor.{isReset, stops}
+use Rattle.processor.specs.Processor.{isReset}
 use Rattle.calls.specs.declared.call.Act.the-variants.{Line, Processor, Inspect}
 use Rattle.calls.specs.Events.{Single, setsUp, does, writes, result, counted}
 
@@ -47,7 +47,7 @@ isArrival (Arrival c parity brk) = true
 isArrival TransmitterEmpty = false
 isArrival (DeviceStatus level) = false
 
--- an arrival at port p
+-- an arrival at port p, refused or not
 unfoldable pub bringsTo : ℕ → Single → Bool
 bringsTo p (setsUp s) = false
 bringsTo p (does (Line q e)) = eqb q p && isArrival e
@@ -55,7 +55,7 @@ bringsTo p (does (Processor o)) = false
 bringsTo p (does Inspect) = false
 bringsTo p (writes m) = false
 
--- a reset or a setup
+-- a reset or a setup, refused or not
 unfoldable pub isClear : Single → Bool
 isClear (setsUp s) = true
 isClear (does (Line q e)) = false
@@ -63,21 +63,9 @@ isClear (does (Processor o)) = isReset o
 isClear (does Inspect) = false
 isClear (writes m) = false
 
--- a stop, a reset or a setup
-unfoldable pub isBreak : Single → Bool
-isBreak (setsUp s) = true
-isBreak (does (Line q e)) = false
-isBreak (does (Processor o)) = stops o
-isBreak (does Inspect) = false
-isBreak (writes m) = false
-
--- a character that port p takes
+-- an arrival at port p that is not refused
 unfoldable pub takesAt : ℕ → World → Single → Bool
 takesAt p w a = bringsTo p a && unrefused w a
-
--- a stop, a reset or a new setup
-unfoldable pub breaks : World → Single → Bool
-breaks w a = isBreak a && unrefused w a
 
 -- port p holds a character
 abbrev pub holdsAt : ℕ → World → Bool

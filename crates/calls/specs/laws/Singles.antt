@@ -2,7 +2,7 @@
 --   run-singles     running the events is running the single things that they come to
 --   singles-single  every list of single things is what some events come to
 --   write-is        a host write puts in its words, leaves the record and answers nothing
---   sweep-counts    a sweep that is not refused makes exactly as many counted turns as it says
+--   sweep-counts    a sweep makes exactly as many counted inspections as it says
 -- Not here: what an event and a single thing are, in specs/Events; how long anybody waits, in waiting.
 -- Assumes nothing.
 use mathlib.Core.Path.{_≡_, refl, sym, _∙_, ap}
@@ -98,13 +98,17 @@ module _ (w : World) (n : ℕ) (list : List ℕ) where
           ∙ ap (λ g. g .world) (sym (sweep-accepted (w .mux) (w .memory) n list e))
       go (no h) = rw (sweep-refused (w .mux) (w .memory) n list h)
 
-  -- a sweep that is not refused makes exactly as many counted turns as it says
-  pub sweep-counts : (s : Setting) → refusal (ofSweep (w .mux) (w .memory) n list) ≡ 0 → tally after counted w (singlesIn w list s (Sweep n)) ≡ sweep (w .mux) (w .memory) n list .reply .made
-  unfolding singlesIn
-  sweep-counts s e =
-      let t = sweep-iff (w .mux) (w .memory) n list .0 e in
-      rw (says-made e)
-      (looks-count (record { sound = t .sound; words = t .words }) (sweeps n (setOut (w .mux) (w .memory) list) .looks))
+  -- a sweep makes exactly as many counted inspections as it says: a refused one makes none
+  pub sweep-counts : (s : Setting) → tally after counted w (singlesIn w list s (Sweep n)) ≡ sweep (w .mux) (w .memory) n list .reply .made
+  unfolding singlesIn total
+  sweep-counts s = go (ℕ-discrete (refusal (ofSweep (w .mux) (w .memory) n list)) 0)
+    where
+      go : Dec (refusal (ofSweep (w .mux) (w .memory) n list) ≡ 0) → tally after counted w (replicate (sweep (w .mux) (w .memory) n list .reply .made) (does Inspect)) ≡ sweep (w .mux) (w .memory) n list .reply .made
+      go (yes e) =
+          let t = sweep-iff (w .mux) (w .memory) n list .0 e in
+          rw (says-made e)
+          (looks-count (record { sound = t .sound; words = t .words }) (sweeps n (setOut (w .mux) (w .memory) list) .looks))
+      go (no h) = rw (sweep-refused (w .mux) (w .memory) n list h)
 
 -- a call comes to its single things
 call-singles : (w : World) (list : List ℕ) (s : Setting) (a : What) → runSingles w (singlesIn w list s a) ≡ stepOf w list s a .world

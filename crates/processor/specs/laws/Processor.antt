@@ -36,7 +36,7 @@ use Rattle.unit.specs.laws.Sound.{sound-iff, sound-with}
 use Rattle.unit.specs.laws.Replies.{guarded-refused, guarded-accepted, either-way}
 use Rattle.processor.specs.declared.orders.Order.{Order}
 use Rattle.processor.specs.declared.orders.Order.the-variants.{Reset, Iopls, Start, Doc, Dob, Dia, Dias, Tick}
-use Rattle.processor.specs.Processor.{resetPort, switched, resetUnit, valueOf, after, order, isReset, stops}
+use Rattle.processor.specs.Processor.{resetPort, switched, resetUnit, valueOf, after, order, isReset}
 
 -- ---- every order
 
@@ -190,6 +190,17 @@ reset-bits q =
     }
 
 -- ---- what stops a unit
+
+-- the orders that stop a unit that runs
+abbrev pub stops : Order → Bool
+stops Reset = true
+stops Iopls = false
+stops Start = false
+stops Doc = false
+stops Dob = true
+stops Dia = false
+stops Dias = false
+stops Tick = false
 
 after-runs : (u : Mux) (o : Order) → u .runs ≡ true → after o u .runs ≡ not (stops o)
 unfolding after

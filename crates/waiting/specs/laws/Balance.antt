@@ -1,5 +1,6 @@
 -- No character is lost uncounted or served twice: what port p takes, with what it held, is what it serves, replaces and drops, with what it
 -- holds at the end. This is so of any record that has the port's place, sound or not, running or not, and of any list of single things.
+--   uncounted, elsewhere   what does not count, and the turn of another port, go to no service of port p's
 --   own-left         after its own turn a port holds nothing
 --   balance-step     what one single thing does to what is held
 --   Placed, balance  a port that has its place in the array; over any list
@@ -17,9 +18,11 @@ use lib.Dec.{eqb}
 use lib.ListN.{length}
 use borrow.Author.Tests.{ne-eqb, eqb-true, eq-eqb, not-false}
 use Rattle.ground.specs.Choose.{bit}
-use Rattle.ground.specs.Machine.{run}
+use Rattle.ground.specs.Machine.{run, tally}
 use Rattle.ground.specs.laws.Machine.{total-eq, total-add}
+use Rattle.interrupt.specs.declared.Service.{Service}
 use Rattle.interrupt.specs.declared.Service.the-variants.{Input, Output}
+use Rattle.unit.specs.declared.reply.Turn.the-variants.{Served}
 use Rattle.unit.specs.Record.{portAt}
 use Rattle.unit.specs.Reply.{turnNumber, counts, World}
 use Rattle.unit.specs.Refusals.{MOST-PORTS}
@@ -30,24 +33,25 @@ use Rattle.scan.specs.laws.Scan.{scanned-input, scanned-output, scanned-idle, s
 use Rattle.calls.specs.Events.{Single, result, after, counted}
 use Rattle.calls.specs.laws.Places.{single-places}
 use Rattle.waiting.specs.Counting.{serviceAt, inputAt, takesAt, holdsAt, replacesAt, dropsAt}
-use Rattle.waiting.specs.Waiting.{taken, inputs, replacements, drops, NotAgain}
+use Rattle.waiting.specs.Waiting.{taken, inputs, NotAgain}
 use Rattle.waiting.specs.laws.View.{Tested, View, turn, arrives, clear, stop, quiet, view, turn-moves}
 use Rattle.waiting.specs.laws.Tests.{tests}
 
 -- ---- a turn
 
--- what does not count does not go to input
-uncounted-input : (p : ℕ) (w : World) (a : Single) → counted w a ≡ false → inputAt p w a ≡ false
+-- what does not count goes to no service
+pub uncounted : (k : Service) (p : ℕ) (w : World) (a : Single) → counted w a ≡ false → serviceAt k p w a ≡ false
 unfolding counted counts serviceAt
-uncounted-input p w a n = rw (eqb-true (turnNumber (result w a .reply .answer .turn)) 0 (not-false _ n))
+uncounted Input p w a n = rw (eqb-true (turnNumber (result w a .reply .answer .turn)) 0 (not-false _ n))
+uncounted Output p w a n = rw (eqb-true (turnNumber (result w a .reply .answer .turn)) 0 (not-false _ n))
 
 module _ (w : World) (a : Single) (t : result w a ≡ scanned (w .mux) (w .memory)) where
-  -- that of another port does not go to port p's input
-  other-input : (p : ℕ) → (w .mux .pos ≡ p → ⊥) → inputAt p w a ≡ false
+  -- that of another port goes to no service of port p's
+  pub elsewhere : (k : Service) (p : ℕ) → (w .mux .pos ≡ p → ⊥) → serviceAt k p w a ≡ false
   unfolding serviceAt
-  other-input p h =
+  elsewhere k p h =
       rw (t, scan-moves (w .mux) (w .memory) .names, ne-eqb (w .mux .pos) p h)
-      (and-false (eqb (turnNumber (scanned (w .mux) (w .memory) .reply .answer .turn)) 2))
+      (and-false (eqb (turnNumber (scanned (w .mux) (w .memory) .reply .answer .turn)) (turnNumber (Served k))))
 
   -- a port's own goes to input exactly where something is held
   own-input : inputAt (w .mux .pos) w a ≡ holdsAt (w .mux .pos) w
@@ -73,7 +77,7 @@ spent p w a = bit (inputAt p w a) + (bit (replacesAt p w a) + bit (dropsAt p w a
 
 module _ (p : ℕ) (w : World) (a : Single) where
   -- what is spent, by how the tests come out
-  spends : {count take break clear : Bool} → Tested p w a count take break clear → spent p w a ≡ bit (inputAt p w a) + (bit (take && holdsAt p w) + bit (clear && holdsAt p w))
+  spends : {count take clear : Bool} → Tested p w a count take clear → spent p w a ≡ bit (inputAt p w a) + (bit (take && holdsAt p w) + bit (clear && holdsAt p w))
   unfolding spent replacesAt dropsAt
   spends t = rw (t .takes, t .clears)
 
@@ -82,7 +86,7 @@ module _ (p : ℕ) (w : World) (a : Single) where
   unfolding bit
   balance-step i = go (view p w a)
     where
-      turned : Dec (w .mux .pos ≡ p) → Tested p w a true false false false → result w a ≡ scanned (w .mux) (w .memory) → spent p w a + bit (holdsAt p (after w a)) ≡ bit (takesAt p w a) + bit (holdsAt p w)
+      turned : Dec (w .mux .pos ≡ p) → Tested p w a true false false → result w a ≡ scanned (w .mux) (w .memory) → spent p w a + bit (holdsAt p (after w a)) ≡ bit (takesAt p w a) + bit (holdsAt p w)
       turned (yes e) t s =
           omega (
             arith,
@@ -92,14 +96,14 @@ module _ (p : ℕ) (w : World) (a : Single) where
             ap bit (ap (λ q. holdsAt q (after w a)) (sym e) ∙ own-left w a s),
           )
       turned (no h) t s =
-          omega (arith, spends t, ap bit (t .takes), ap bit (other-input w a s p h), ap (λ q. bit (q .held)) (turn-moves p w a s .other h))
+          omega (arith, spends t, ap bit (t .takes), ap bit (elsewhere w a s Input p h), ap (λ q. bit (q .held)) (turn-moves p w a s .other h))
 
       go : View p w a → spent p w a + bit (holdsAt p (after w a)) ≡ bit (takesAt p w a) + bit (holdsAt p w)
       go (turn t c s) = turned (ℕ-discrete (w .mux .pos) p) t s
-      go (arrives t k s e h m) = omega (arith, spends t, ap bit (uncounted-input p w a (t .counts)), ap bit (t .takes), ap bit (h i))
-      go (clear t s h) = omega (arith, spends t, ap bit (uncounted-input p w a (t .counts)), ap bit (t .takes), ap bit h)
-      go (stop t s l) = omega (arith, spends t, ap bit (uncounted-input p w a (t .counts)), ap bit (t .takes), ap bit (l .held))
-      go (quiet t s l) = omega (arith, spends t, ap bit (uncounted-input p w a (t .counts)), ap bit (t .takes), ap bit (l .held))
+      go (arrives t k s e h m) = omega (arith, spends t, ap bit (uncounted Input p w a (t .counts)), ap bit (t .takes), ap (λ q. bit (q .held)) (h i))
+      go (clear t k s h) = omega (arith, spends t, ap bit (uncounted Input p w a (t .counts)), ap bit (t .takes), ap bit h)
+      go (stop t b s l) = omega (arith, spends t, ap bit (uncounted Input p w a (t .counts)), ap bit (t .takes), ap bit (l .held))
+      go (quiet t s l) = omega (arith, spends t, ap bit (uncounted Input p w a (t .counts)), ap bit (t .takes), ap bit (l .held))
 
 -- ---- a list
 
@@ -116,7 +120,7 @@ keeps-place p b w a h = go (single-places w a)
     go (inr e) = rw e b
 
 -- what is taken, with what was held, is what goes, with what is held at the end
-pub balance : (p : ℕ) (w : World) (xs : List Single) → p < MOST-PORTS → Placed p w → taken p w xs + bit (holdsAt p w) ≡ inputs p w xs + replacements p w xs + drops p w xs + bit (holdsAt p (run after w xs))
+pub balance : (p : ℕ) (w : World) (xs : List Single) → p < MOST-PORTS → Placed p w → taken p w xs + bit (holdsAt p w) ≡ inputs p w xs + tally after (replacesAt p) w xs + tally after (dropsAt p) w xs + bit (holdsAt p (run after w xs))
 unfolding spent
 balance p w xs b h =
     omega (

@@ -14,6 +14,7 @@ use native.Mathlib.Nat.{mul-le-mul-right}
 use native.Mathlib.Decide.{ℕ-discrete}
 use native.Mathlib.Omega.{arith}
 use lib.Dec.{eqb}
+use lib.ListN.{length}
 use Rattle.ground.specs.Choose.{bit}
 use Rattle.ground.specs.Machine.{Throughout, Every, Until}
 use Rattle.ground.specs.laws.Machine.{run-keeps, never, throughout-map, until-map, until-le, total-same}
@@ -27,17 +28,17 @@ use Rattle.unit.specs.Sound.{Sound, AllPorts}
 use Rattle.unit.specs.laws.Ports.{held-inside, empty-inside}
 use Rattle.lines.specs.laws.Lines.{Marked}
 use Rattle.scan.specs.Scan.{scanned}
-use Rattle.scan.specs.laws.Scan.{scanned-input, scanned-output, service-empty}
+use Rattle.scan.specs.laws.Scan.{scanned-input, scanned-output, served-says, service-empty}
 use Rattle.calls.specs.declared.call.Act.the-variants.{Inspect}
 use Rattle.calls.specs.Events.{Single, setsUp, does, result, after, runSingles, counted}
 use Rattle.calls.specs.laws.Singles.{run-singles, singles-single, sweep-counts}
 use Rattle.calls.specs.laws.Places.{setup-places, keeps-places}
 use Rattle.door.specs.laws.Door.{made-run}
-use Rattle.waiting.specs.Counting.{turnAt, inputAt, takesAt, holdsAt}
-use Rattle.waiting.specs.Waiting.{P, Running, Holds, Empty, Turn, Takes, Stops, turns, inputs, First, Second, While, InputTurn, Replacement, Served, Replaced, Fate, Echo, Handed, OutputFate, Places, Rotation, HeldCharacter, FirstBound, EmptyTransmitter, SecondBound, Demand}
+use Rattle.waiting.specs.Counting.{turnAt, serviceAt, inputAt, outputAt, takesAt, holdsAt}
+use Rattle.waiting.specs.Waiting.{P, Running, Holds, Empty, Takes, Arrived, ServiceTurn, Stops, inspections, inputs, While, WithinP, InputServed, Replacement, Served, Replaced, Fate, HeldCharacter, FirstBound, WithinKP, Echo, OutputServed, OutputFate, EmptyTransmitter, SecondBound, Rotation, Places, Demand}
 use Rattle.waiting.specs.laws.View.{Stays, Leaves, leaves-same, Tested, View, turn, arrives, clear, stop, quiet, view, turn-moves}
-use Rattle.waiting.specs.laws.Tests.{counts-names, tests}
-use Rattle.waiting.specs.laws.Balance.{own-left, keeps-place, balance, not-again}
+use Rattle.waiting.specs.laws.Tests.{counts-names, tests, arriving}
+use Rattle.waiting.specs.laws.Balance.{uncounted, elsewhere, own-left, keeps-place, balance, not-again}
 
 -- the scan position of a world
 abbrev at : World → ℕ
@@ -46,14 +47,15 @@ at w = w .mux .pos
 -- ---- any wait
 
 module _ (p : ℕ) (own barred : World → Single → Bool) (C : World → Type 0) (End : World → Single → Type 0) where
-  -- what must be known of a wait at port p, where C holds until End: it goes on where port p is left, a stop ends it, nothing but an arrival
-  -- is barred, and what an arrival and port p's own turn do to it
+  -- what must be known of a wait at port p, where C holds until End: it goes on where port p is left, a stop ends it, neither what is no turn
+  -- nor another port's turn is barred, and what an arrival and port p's own turn do to it
   record Wait : Type 0 where
     left : (w v : World) → Leaves (portAt (w .mux) p) (portAt (v .mux) p) → C w → C v
     stopped : (w : World) (a : Single) → Stops w a → End w a
-    free : (w : World) (a : Single) → takesAt p w a ≡ false → barred w a ≡ false
-    arrival : (w : World) (a : Single) → C w → Takes p w a → (Empty p w → Empty p (after w a)) → (holdsAt p w ≡ true → Marked (portAt (after w a .mux) p)) → End w a ⊎ (C (after w a) × (barred w a ≡ false))
-    own-turn : (w : World) (a : Single) → C w → a ≡ does Inspect → at w ≡ p → result w a ≡ scanned (w .mux) (w .memory) → End w a ⊎ (C (after w a) × (own w a ≡ true))
+    no-turn : (w : World) (a : Single) → takesAt p w a ≡ false → counted w a ≡ false → barred w a ≡ false
+    other-turn : (w : World) (a : Single) → takesAt p w a ≡ false → result w a ≡ scanned (w .mux) (w .memory) → (at w ≡ p → ⊥) → barred w a ≡ false
+    arrival : (w : World) (a : Single) → C w → counted w a ≡ false → (t : Takes p w a) → (Empty p w → Empty p (after w a)) → (p < length (w .mux .port) → Arrived p w a t) → (holdsAt p w ≡ true → Marked (portAt (after w a .mux) p)) → End w a ⊎ (C (after w a) × (barred w a ≡ false))
+    own-turn : (w : World) (a : Single) → C w → a ≡ does Inspect → at w ≡ p → result w a ≡ scanned (w .mux) (w .memory) → End w a ⊎ (C (after w a) × ((own w a ≡ true) × (barred w a ≡ false)))
 
   -- it goes on in a running unit of N ports
   record On (N : ℕ) (w : World) : Type 0 where
@@ -77,23 +79,26 @@ module _ (p : ℕ) (own barred : World → Single → Bool) (C : World → Type 
       stays f n s c = rests (record { running = s .running (o .running); ports = s .ports ∙ o .ports; meanwhile = c }) f n (s .pos)
 
       -- a turn
-      moves : Tested p w a true false false false → result w a ≡ scanned (w .mux) (w .memory) → C (after w a) → (at w ≡ p → own w a ≡ true) → Goes′ N w a
-      moves d t c spent =
+      moves : barred w a ≡ false → counted w a ≡ true → result w a ≡ scanned (w .mux) (w .memory) → C (after w a) → (at w ≡ p → own w a ≡ true) → Goes′ N w a
+      moves f n t c spent =
           let m = turn-moves p w a t in
           passes
           (record { running = m .running (o .running); ports = m .ports ∙ o .ports; meanwhile = c })
-          (k .free w a (d .takes))
-          (d .counts)
+          f
+          n
           spent
           (m .pos ∙ ap (λ x. (at w + 1) % x) (o .ports))
 
-      owned : Tested p w a true false false false → result w a ≡ scanned (w .mux) (w .memory) → End w a ⊎ (C (after w a) × (own w a ≡ true)) → Goes′ N w a
-      owned d t (inl e) = ends e
-      owned d t (inr c) = moves d t (c .0) (λ e. c .1)
+      owned : counted w a ≡ true → result w a ≡ scanned (w .mux) (w .memory) → End w a ⊎ (C (after w a) × ((own w a ≡ true) × (barred w a ≡ false))) → Goes′ N w a
+      owned n t (inl e) = ends e
+      owned n t (inr c) = moves (c .1 .1) n t (c .0) (λ e. c .1 .0)
 
-      turned : Dec (at w ≡ p) → a ≡ does Inspect → Tested p w a true false false false → result w a ≡ scanned (w .mux) (w .memory) → Goes′ N w a
-      turned (yes e) i d t = owned d t (k .own-turn w a (o .meanwhile) i e t)
-      turned (no h) i d t = moves d t (k .left w (after w a) (leaves-same _ _ (turn-moves p w a t .other h)) (o .meanwhile)) (λ e. absurd (h e))
+      turned : Dec (at w ≡ p) → a ≡ does Inspect → Tested p w a true false false → result w a ≡ scanned (w .mux) (w .memory) → Goes′ N w a
+      turned (yes e) i d t = owned (d .counts) t (k .own-turn w a (o .meanwhile) i e t)
+      turned (no h) i d t =
+          moves (k .other-turn w a (d .takes) t h) (d .counts) t
+          (k .left w (after w a) (leaves-same _ _ (turn-moves p w a t .other h)) (o .meanwhile))
+          (λ e. absurd (h e))
 
       came : counted w a ≡ false → Stays w (after w a) → End w a ⊎ (C (after w a) × (barred w a ≡ false)) → Goes′ N w a
       came n s (inl f) = ends f
@@ -101,10 +106,10 @@ module _ (p : ℕ) (own barred : World → Single → Bool) (C : World → Type 
 
       go : View p w a → Goes′ N w a
       go (turn d c t) = turned (ℕ-discrete (at w) p) (c .look) d t
-      go (arrives d c s e i m) = came (d .counts) s (k .arrival w a (o .meanwhile) c e m)
-      go (clear d s h) = ends (k .stopped w a s)
-      go (stop d s l) = ends (k .stopped w a s)
-      go (quiet d s l) = stays (k .free w a (d .takes)) (d .counts) s (k .left w (after w a) l (o .meanwhile))
+      go (arrives d c s e i m) = came (d .counts) s (k .arrival w a (o .meanwhile) (d .counts) c e i m)
+      go (clear d c s h) = ends (k .stopped w a s)
+      go (stop d b s l) = ends (k .stopped w a s)
+      go (quiet d s l) = stays (k .no-turn w a (d .takes) (d .counts)) (d .counts) s (k .left w (after w a) l (o .meanwhile))
 
   -- so over any list it ends or goes on, within the bound
   waits-for : Wait → (w : World) (xs : List Single) → Running w → p < P w → C w → Outcome after at (P w) p counted own barred (While C) End (P w - 1) w xs
@@ -119,11 +124,11 @@ module _ (p : ℕ) (own barred : World → Single → Bool) (C : World → Type 
 
 -- a single thing that ends its wait
 data HeldEnd (p : ℕ) (w : World) (a : Single) : Type 0 where
-  taken : InputTurn p w a → HeldEnd p w a
+  taken : InputServed p w a → HeldEnd p w a
   pushed : Replacement p w a → HeldEnd p w a
   stopped : Stops w a → HeldEnd p w a
 
--- no own turn is spent on anything else, and nothing is barred
+-- no own turn is spent on anything else
 none : World → Single → Bool
 none w a = false
 
@@ -133,8 +138,9 @@ held-wait p c b =
     record {
       left = λ w v l h. record { held = l .held ∙ h .held; same = l .same ∙ h .same };
       stopped = λ w a s. HeldEnd.stopped s;
-      free = λ w a n. n;
-      arrival = λ w a h k f m. let x = m (h .held) in inl (pushed (record { later = k; held = x .held; mark = x .mark }));
+      no-turn = λ w a n c. n;
+      other-turn = λ w a n t e. n;
+      arrival = λ w a h n k f i m. inl (pushed (record { later = k; arrived = i (held-inside (w .mux) p (h .held)); mark = m (h .held) .mark }));
       own-turn = λ w a h i e t. inl (taken (record {
         turn = record { look = i; position = e; rules = t ∙ scanned-input (w .mux) (w .memory) (ap (λ x. holdsAt x w) e ∙ h .held) };
         once = not-again p (after w a) b (keeps-place p b w a (held-inside (w .mux) p (h .held))) (ap (λ x. holdsAt x (after w a)) (sym e) ∙ own-left w a t);
@@ -146,10 +152,10 @@ input-fate : HeldCharacter
 unfolding none
 input-fate w p c xs r b h = go (waits-for p none (takesAt p) (Holds p c) (HeldEnd p) (held-wait p c (omega (arith, r .sound .setting .size .few-ports))) w xs r b h)
   where
-    first : (ys : List Single) → Within after at (P w) p counted none (takesAt p) (While (Holds p c)) (HeldEnd p) (P w - 1) w ys → First p w ys
+    first : (ys : List Single) → Within after at (P w) p counted none (takesAt p) (While (Holds p c)) (HeldEnd p) (P w - 1) w ys → WithinP p w ys
     first ys f = record { alone = f .none-barred; soon = omega (arith, rw (never after w ys) at (f .few)) }
 
-    at-end : (u : Until after (While (Holds p c)) w xs) → First p w (u .before) → HeldEnd p (runSingles w (u .before)) (u .here) → Fate p c w xs
+    at-end : (u : Until after (While (Holds p c)) w xs) → WithinP p w (u .before) → HeldEnd p (runSingles w (u .before)) (u .here) → Fate p c w xs
     at-end u f (taken e) = Fate.served (record { wait = u; bound = f; end = e })
     at-end u f (pushed e) = Fate.replaced (record { wait = u; bound = f; end = e })
     at-end u f (HeldEnd.stopped e) = Fate.broken (record { wait = u; bound = f; end = e })
@@ -162,58 +168,59 @@ input-fate w p c xs r b h = go (waits-for p none (takesAt p) (Holds p c) (HeldEn
 
 -- a single thing that ends its wait
 data FreeEnd (p : ℕ) (w : World) (a : Single) : Type 0 where
-  given : Turn Output p w a → FreeEnd p w a
+  given : ServiceTurn Output p w a → FreeEnd p w a
   filled : Echo p w a → FreeEnd p w a
   stopped : Stops w a → FreeEnd p w a
 
 -- a port's own turn, its transmitter empty: output, or input with an echo, or input that leaves it empty
-own-free : (w : World) (a : Single) → a ≡ does Inspect → result w a ≡ scanned (w .mux) (w .memory) → Empty (at w) w → FreeEnd (at w) w a ⊎ (Empty (at w) (after w a) × (inputAt (at w) w a ≡ true))
+own-free : (w : World) (a : Single) → a ≡ does Inspect → result w a ≡ scanned (w .mux) (w .memory) → Empty (at w) w → FreeEnd (at w) w a ⊎ (Empty (at w) (after w a) × ((inputAt (at w) w a ≡ true) × (outputAt (at w) w a ≡ false)))
+unfolding serviceAt
 own-free w a i t h = go (portAt (w .mux) (at w) .held) refl
   where
     -- a turn that goes to input
-    input : holdsAt (at w) w ≡ true → Turn Input (at w) w a
+    input : holdsAt (at w) w ≡ true → ServiceTurn Input (at w) w a
     input e = record { look = i; position = refl; rules = t ∙ scanned-input (w .mux) (w .memory) e }
 
     -- leaves the transmitter empty unless it handed a byte over
-    left : (k : Turn Input (at w) w a) (sent : Bool) → result w a .reply .answer .sent ≡ sent → portAt (after w a .mux) (at w) .empty ≡ not sent
+    left : (k : ServiceTurn Input (at w) w a) (sent : Bool) → result w a .reply .answer .sent ≡ sent → portAt (after w a .mux) (at w) .empty ≡ not sent
     left k sent s =
         ap (λ l. portAt (l .world .mux) (at w) .empty) (k .rules)
         ∙ service-empty Input (w .mux) (w .memory) (empty-inside (w .mux) (at w) h)
         ∙ rw (h, ← ap (λ l. l .reply .answer .sent) (k .rules), s)
 
-    took : (k : Turn Input (at w) w a) (sent : Bool) → result w a .reply .answer .sent ≡ sent → FreeEnd (at w) w a ⊎ (Empty (at w) (after w a) × (inputAt (at w) w a ≡ true))
+    took : (k : ServiceTurn Input (at w) w a) (sent : Bool) → result w a .reply .answer .sent ≡ sent → FreeEnd (at w) w a ⊎ (Empty (at w) (after w a) × ((inputAt (at w) w a ≡ true) × (outputAt (at w) w a ≡ false)))
     took k true s = inl (filled (record { input = k; sent = s; full = left k true s }))
-    took k false s = inr (left k false s, tests .serving Input (at w) w a .1 k)
+    took k false s = inr (left k false s, (tests .serving Input (at w) w a .1 k, rw (k .rules, served-says Input (w .mux) (w .memory))))
 
-    go : (held : Bool) → holdsAt (at w) w ≡ held → FreeEnd (at w) w a ⊎ (Empty (at w) (after w a) × (inputAt (at w) w a ≡ true))
+    go : (held : Bool) → holdsAt (at w) w ≡ held → FreeEnd (at w) w a ⊎ (Empty (at w) (after w a) × ((inputAt (at w) w a ≡ true) × (outputAt (at w) w a ≡ false)))
     go false e = inl (given (record { look = i; position = refl; rules = t ∙ scanned-output (w .mux) (w .memory) e h }))
     go true e = took (input e) (result w a .reply .answer .sent) refl
 
 -- it goes on where a character arrives
-free-wait : (p : ℕ) → Wait p (inputAt p) none (Empty p) (FreeEnd p)
-unfolding none
+free-wait : (p : ℕ) → Wait p (inputAt p) (outputAt p) (Empty p) (FreeEnd p)
 free-wait p =
     record {
       left = λ w v l h. l .empty h;
       stopped = λ w a s. FreeEnd.stopped s;
-      free = λ w a n. refl;
-      arrival = λ w a h k f m. inr (f h, refl);
-      own-turn = λ w a h i e t. subst (λ (x : ℕ). Empty x w → FreeEnd x w a ⊎ (Empty x (after w a) × (inputAt x w a ≡ true))) e (own-free w a i t) h;
+      no-turn = λ w a n c. uncounted Output p w a c;
+      other-turn = λ w a n t e. elsewhere w a t Output p e;
+      arrival = λ w a h n k f i m. inr (f h, uncounted Output p w a n);
+      own-turn = λ w a h i e t. subst (λ (x : ℕ). Empty x w → FreeEnd x w a ⊎ (Empty x (after w a) × ((inputAt x w a ≡ true) × (outputAt x w a ≡ false)))) e (own-free w a i t) h;
     }
 
 -- what becomes of an empty transmitter
 output-fate : EmptyTransmitter
-output-fate w p xs r b h = go (waits-for p (inputAt p) none (Empty p) (FreeEnd p) (free-wait p) w xs r b h)
+output-fate w p xs r b h = go (waits-for p (inputAt p) (outputAt p) (Empty p) (FreeEnd p) (free-wait p) w xs r b h)
   where
-    second : (ys : List Single) → Within after at (P w) p counted (inputAt p) none (While (Empty p)) (FreeEnd p) (P w - 1) w ys → Second p w ys
-    second ys f = omega (arith, f .few)
+    second : (ys : List Single) → Within after at (P w) p counted (inputAt p) (outputAt p) (While (Empty p)) (FreeEnd p) (P w - 1) w ys → WithinKP p w ys
+    second ys f = record { unserved = f .none-barred; soon = omega (arith, f .few) }
 
-    at-end : (u : Until after (While (Empty p)) w xs) → Second p w (u .before) → FreeEnd p (runSingles w (u .before)) (u .here) → OutputFate p w xs
-    at-end u f (given e) = OutputFate.handed (record { wait = u; bound = f; end = e })
+    at-end : (u : Until after (While (Empty p)) w xs) → WithinKP p w (u .before) → FreeEnd p (runSingles w (u .before)) (u .here) → OutputFate p w xs
+    at-end u f (given e) = OutputFate.served (record { wait = u; bound = f; end = e })
     at-end u f (filled e) = OutputFate.echoed (record { wait = u; bound = f; end = e })
     at-end u f (FreeEnd.stopped e) = OutputFate.broken (record { wait = u; bound = f; end = e })
 
-    go : Outcome after at (P w) p counted (inputAt p) none (While (Empty p)) (FreeEnd p) (P w - 1) w xs → OutputFate p w xs
+    go : Outcome after at (P w) p counted (inputAt p) (outputAt p) (While (Empty p)) (FreeEnd p) (P w - 1) w xs → OutputFate p w xs
     go (ended u e f) = at-end u (second (u .before) f) e
     go (waits t f) = OutputFate.waits (record { still = t; bound = second xs f })
 
@@ -256,8 +263,8 @@ every-moves N w (a ∷ xs) s e b = go (view 0 w a) (every-moves N (after w a) xs
           rest (m .running running .sound) (m .ports ∙ e) (b .1),
         )
     go (arrives d c k f i m) rest = stays (d .counts) k rest
-    go (clear d n h) rest = stopped n
-    go (stop d n l) rest = stopped n
+    go (clear d c n h) rest = stopped n
+    go (stop d b n l) rest = stopped n
     go (quiet d k l) rest = stays (d .counts) k rest
 
 -- port p's turn is a turn with the position at p
@@ -304,10 +311,10 @@ arrived-fate v p a xs n r k calm enough = go (view p v a)
     go : View p v a → Served p c w xs ⊎ Replaced p c w xs
     go (arrives d t s e i m) =
         let few = r .sound .setting .size .few-ports in
-        fate (input-fate w p c xs (s .running r) (rw (s .ports) (k .below)) (record { held = i (omega (arith, n, k .below)); same = refl }))
+        fate (input-fate w p c xs (s .running r) (rw (s .ports) (k .below)) (record { held = ap (λ q. q .held) (i (omega (arith, n, k .below))); same = refl }))
     go (turn d t e) = other (d .takes)
-    go (clear d s h) = other (d .takes)
-    go (stop d s l) = other (d .takes)
+    go (clear d c s h) = other (d .takes)
+    go (stop d b s l) = other (d .takes)
     go (quiet d s l) = other (d .takes)
 
 -- the second bound
@@ -315,31 +322,32 @@ handed-fate : SecondBound
 unfolding bit
 handed-fate w p k xs r b e few no-echo calm enough = go (output-fate w p xs r b e)
   where
-    go : OutputFate p w xs → (h : Handed p w xs) × (turns w (h .wait .before) < (k + 1) * P w)
-    go (OutputFate.handed s) =
+    go : OutputFate p w xs → (h : OutputServed p w xs) × (inspections w (h .wait .before) < (k + 1) * P w)
+    go (OutputFate.served s) =
         let i : inputs p w (s .wait .before) + 1 ≤ k + 1 = omega (arith, until-le after (λ v a. bit (inputAt p v a)) (While (Empty p)) w xs (s .wait)) in
-        (s, omega (arith, s .bound, mul-le-mul-right (P w) i))
+        (s, omega (arith, s .bound .soon, mul-le-mul-right (P w) i))
     go (OutputFate.echoed s) = absurd (no-echo s)
     go (OutputFate.broken s) = absurd (calm s)
     go (OutputFate.waits s) =
         let i : inputs p w xs + 1 ≤ k + 1 = omega arith in
-        absurd (omega (arith, s .bound, mul-le-mul-right (P w) i))
+        absurd (omega (arith, s .bound .soon, mul-le-mul-right (P w) i))
 
 -- demand 3
 pub demand : Demand
 demand =
     record {
-      events = run-singles;
-      windows = singles-single;
-      door = λ w v es m. made-run m ∙ run-singles w es;
-      sweeps = sweep-counts;
-      tests = tests;
-      places = since-places;
-      rotation = each-port-once;
-      balance = λ w p xs n b. balance p w xs b (rw n b);
       input = input-fate;
       first-bound = λ v p a xs s. arrived-fate v p a xs (since-places v s);
       any-record = arrived-fate;
       output = output-fate;
       second-bound = handed-fate;
+      tests = tests;
+      arrivals = arriving;
+      rotation = each-port-once;
+      balance = λ w p xs n b. balance p w xs b (rw n b);
+      places = since-places;
+      events = run-singles;
+      windows = singles-single;
+      door = λ w v es m. made-run m ∙ run-singles w es;
+      sweeps = sweep-counts;
     }

@@ -1,6 +1,7 @@
 -- The tests of a single thing are true where the demand's words hold, and nowhere else.
---   counts-scans    an inspection that counts is a turn
---   tests           each of them
+--   counts-scans, counts-names   an inspection that counts is a turn, and names the port at the position
+--   tests                        each test
+--   arriving                     a character that is taken is held
 -- Not here: what a single thing does to a port, in View.
 -- Assumes nothing.
 use mathlib.Core.Path.{_≡_, refl, sym, _∙_, ap}
@@ -10,21 +11,25 @@ use Prim.Native.Nat.{ℕ}
 use native.Mathlib.Omega.{arith}
 use lib.Dec.{eqb}
 use borrow.Author.Tests.{eqb-true, eq-eqb}
+use Rattle.ground.specs.Choose.{pick}
 use Rattle.interrupt.specs.declared.Service.{Service}
 use Rattle.interrupt.specs.declared.Service.the-variants.{Input, Output}
 use Rattle.unit.specs.declared.reply.Turn.the-variants.{Served}
 use Rattle.unit.specs.Record.{portAt}
 use Rattle.unit.specs.Reply.{turnNumber, counts, World}
 use Rattle.unit.specs.laws.Sound.{port-iff}
+use Rattle.unit.specs.laws.Replies.{setup-accepted}
 use Rattle.lines.specs.declared.signal.Signal.the-variants.{Arrival}
+use Rattle.lines.specs.laws.Lines.{arrived}
+use Rattle.processor.specs.laws.Processor.{reset-is, dob-is}
 use Rattle.scan.specs.Turn.{idleTurn}
 use Rattle.scan.specs.Scan.{serviceTurn, scanned}
 use Rattle.scan.specs.laws.Scan.{sound-scans, scan-moves, scanned-input, scanned-output, scanned-idle, served-says, served-names}
-use Rattle.calls.specs.Calls.{performed}
+use Rattle.calls.specs.Calls.{setUp, performed}
 use Rattle.calls.specs.Events.{Single, result, after, counted}
-use Rattle.waiting.specs.Counting.{turnAt, serviceAt, isArrival, takesAt, breaks}
-use Rattle.waiting.specs.Waiting.{Running, Counts, Turn, Takes, Stops, Tests}
-use Rattle.waiting.specs.laws.View.{View, turn, arrives, clear, stop, quiet, takes-line, view, turn-moves}
+use Rattle.waiting.specs.Counting.{turnAt, serviceAt, unrefused, isArrival, isClear, takesAt, holdsAt, replacesAt, dropsAt}
+use Rattle.waiting.specs.Waiting.{Running, Takes, ServiceTurn, Stops, Counts, Clears, reset, setup, Breaks, clears, Tests, Arrivals}
+use Rattle.waiting.specs.laws.View.{View, turn, arrives, clear, quiet, takes-line, view, turn-moves}
 
 -- both of two tests
 both : (x y : Bool) → x && y ≡ true → (x ≡ true) × (y ≡ true)
@@ -46,8 +51,8 @@ module _ (w : World) (a : Single) where
       to : View 0 w a → counted w a ≡ true → Counts w a
       to (turn t c e) n = c
       to (arrives t k s e i m) n = absurd (false≢true (sym (t .counts) ∙ n))
-      to (clear t s h) n = absurd (false≢true (sym (t .counts) ∙ n))
-      to (stop t s l) n = absurd (false≢true (sym (t .counts) ∙ n))
+      to (clear t k s h) n = absurd (false≢true (sym (t .counts) ∙ n))
+      to (View.stop t b s l) n = absurd (false≢true (sym (t .counts) ∙ n))
       to (quiet t s l) n = absurd (false≢true (sym (t .counts) ∙ n))
 
   -- ---- a turn
@@ -97,7 +102,7 @@ module _ (w : World) (a : Single) where
       go false h true f = by Output (scanned-output (w .mux) (w .memory) h f)
       go false h false f = absurd (idle k (sym (ap (λ l. turnNumber (l .reply .answer .turn)) (t ∙ scanned-idle (w .mux) (w .memory) h f)) ∙ n))
 
-  serving : (k : Service) (p : ℕ) → (serviceAt k p w a ≡ true) ↔ Turn k p w a
+  serving : (k : Service) (p : ℕ) → (serviceAt k p w a ≡ true) ↔ ServiceTurn k p w a
   unfolding serviceAt counted counts
   serving k p = (to, back)
     where
@@ -105,14 +110,14 @@ module _ (w : World) (a : Single) where
       some Input = refl
       some Output = refl
 
-      to : eqb (turnNumber (result w a .reply .answer .turn)) (turnNumber (Served k)) && eqb (result w a .reply .answer .port) p ≡ true → Turn k p w a
+      to : eqb (turnNumber (result w a .reply .answer .turn)) (turnNumber (Served k)) && eqb (result w a .reply .answer .port) p ≡ true → ServiceTurn k p w a
       to e =
           let b = both (eqb (turnNumber (result w a .reply .answer .turn)) (turnNumber (Served k))) (eqb (result w a .reply .answer .port) p) e in
           let n : turnNumber (result w a .reply .answer .turn) ≡ turnNumber (Served k) = eqb-true _ _ (b .0) in
           let c = counting .0 (rw (n, some k)) in
           record { look = c .look; position = sym (counts-names c) ∙ eqb-true _ p (b .1); rules = served-turn k (counts-scans c) n }
 
-      back : Turn k p w a → eqb (turnNumber (result w a .reply .answer .turn)) (turnNumber (Served k)) && eqb (result w a .reply .answer .port) p ≡ true
+      back : ServiceTurn k p w a → eqb (turnNumber (result w a .reply .answer .turn)) (turnNumber (Served k)) && eqb (result w a .reply .answer .port) p ≡ true
       back t =
           rw (t .rules, served-says k (w .mux) (w .memory), served-names k (w .mux) (w .memory), t .position)
           (rw (eq-eqb (turnNumber (Served k)) (turnNumber (Served k)) refl) (eq-eqb p p refl))
@@ -126,8 +131,8 @@ module _ (w : World) (a : Single) where
       to : View p w a → takesAt p w a ≡ true → Takes p w a
       to (turn t c e) n = absurd (false≢true (sym (t .takes) ∙ n))
       to (arrives t k s e i m) n = k
-      to (clear t s h) n = absurd (false≢true (sym (t .takes) ∙ n))
-      to (stop t s l) n = absurd (false≢true (sym (t .takes) ∙ n))
+      to (clear t k s h) n = absurd (false≢true (sym (t .takes) ∙ n))
+      to (View.stop t b s l) n = absurd (false≢true (sym (t .takes) ∙ n))
       to (quiet t s l) n = absurd (false≢true (sym (t .takes) ∙ n))
 
       back : Takes p w a → takesAt p w a ≡ true
@@ -136,21 +141,73 @@ module _ (w : World) (a : Single) where
           (takes-line w p (Arrival (k .byte) (k .parity) (k .brk)) p (port-iff (w .mux) p .1 (k .sound, k .below)) .takes
           ∙ rw (eq-eqb p p refl))
 
-  -- ---- a stop
-
-  breaking : Running w → (breaks w a ≡ true) ↔ Stops w a
-  breaking r = go (view 0 w a)
+  -- what replaces a held one is taken where one is held
+  replacing : (p : ℕ) → (replacesAt p w a ≡ true) ↔ (Takes p w a × (holdsAt p w ≡ true))
+  unfolding replacesAt
+  replacing p = (to, λ k. rw (taking p .1 (k .0)) (k .1))
     where
-      on : breaks w a ≡ false → Running (after w a) → (breaks w a ≡ true) ↔ Stops w a
-      on b s = (λ n. absurd (false≢true (sym b ∙ n)), λ n. absurd (true≢false (sym (s .runs) ∙ n)))
+      to : takesAt p w a && holdsAt p w ≡ true → Takes p w a × (holdsAt p w ≡ true)
+      to e = let b = both (takesAt p w a) (holdsAt p w) e in (taking p .0 (b .0), b .1)
 
-      go : View 0 w a → (breaks w a ≡ true) ↔ Stops w a
-      go (turn t c e) = on (t .breaks) (turn-moves 0 w a e .running r)
-      go (arrives t k s e i m) = on (t .breaks) (s .running r)
-      go (clear t s h) = (λ n. s, λ n. t .breaks)
-      go (stop t s l) = (λ n. s, λ n. t .breaks)
-      go (quiet t s l) = on (t .breaks) (s .running r)
+  -- ---- a reset, a setup, a stop
+
+  -- a reset or a setup that is accepted is one that is asked and not refused
+  cleared : Clears w a → isClear a && unrefused w a ≡ true
+  unfolding isClear unrefused result performed setUp
+  cleared (reset s e) = rw (e, reset-is (w .mux) s)
+  cleared (setup s z e) = rw (e, setup-accepted s z)
+
+  dropping : (p : ℕ) → (dropsAt p w a ≡ true) ↔ (Clears w a × (holdsAt p w ≡ true))
+  unfolding dropsAt
+  dropping p = (to, λ k. rw (cleared (k .0)) (k .1))
+    where
+      by : View p w a → isClear a && unrefused w a ≡ true → Clears w a
+      by (turn t c e) n = absurd (false≢true (sym (t .clears) ∙ n))
+      by (arrives t k s e i m) n = absurd (false≢true (sym (t .clears) ∙ n))
+      by (clear t k s h) n = k
+      by (View.stop t b s l) n = absurd (false≢true (sym (t .clears) ∙ n))
+      by (quiet t s l) n = absurd (false≢true (sym (t .clears) ∙ n))
+
+      to : (isClear a && unrefused w a) && holdsAt p w ≡ true → Clears w a × (holdsAt p w ≡ true)
+      to e = let b = both (isClear a && unrefused w a) (holdsAt p w) e in (by (view p w a) (b .0), b .1)
+
+  -- a stop, a reset and a setup leave the unit stopped, and nothing else stops one that runs
+  breaking : Running w → Stops w a ↔ Breaks w a
+  unfolding result performed setUp pick
+  breaking r = (to (view 0 w a), back)
+    where
+      on : Running (after w a) → Stops w a → Breaks w a
+      on s n = absurd (true≢false (sym (s .runs) ∙ n))
+
+      to : View 0 w a → Stops w a → Breaks w a
+      to (turn t c e) = on (turn-moves 0 w a e .running r)
+      to (arrives t k s e i m) = on (s .running r)
+      to (clear t k s h) = λ n. clears k
+      to (View.stop t b s l) = λ n. b
+      to (quiet t s l) = on (s .running r)
+
+      back : Breaks w a → Stops w a
+      back (Breaks.stop s e) = rw (e, dob-is (w .mux) s)
+      back (clears (reset s e)) = rw (e, reset-is (w .mux) s)
+      back (clears (setup s z e)) = rw (e, setup-accepted s z)
 
 -- all of them
 pub tests : Tests
-tests = record { counting = counting; turning = λ p w a. turning w a p; serving = λ k p w a. serving w a k p; taking = λ p w a. taking w a p; breaking = breaking }
+tests =
+    record {
+      counting = counting;
+      turning = λ p w a. turning w a p;
+      serving = λ k p w a. serving w a k p;
+      taking = λ p w a. taking w a p;
+      replacing = λ p w a. replacing w a p;
+      dropping = λ p w a. dropping w a p;
+      breaking = breaking;
+    }
+
+-- a character that is taken is held as the lines' rule has it
+pub arriving : Arrivals
+unfolding result performed
+arriving p w a n t =
+    let few = t .sound .setting .size .few-ports in
+    ap (λ x. portAt (after w x .mux) p) (t .arrival)
+    ∙ arrived (w .mux) p (t .byte) (t .parity) (t .brk) (port-iff (w .mux) p .1 (t .sound, t .below)) (omega (arith, n, t .below))

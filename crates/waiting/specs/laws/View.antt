@@ -1,4 +1,4 @@
--- What one single thing does to port p, of any world, sound or not, running or not: the one case analysis of demand 3. No service is opened.
+-- What one single thing does to port p, of any world, sound or not, running or not: the one case analysis of demand 3. Nothing here depends on what a service does.
 --   Stays, Leaves         the position stays, and a unit that runs runs on; a port holds what it held, an empty transmitter stays empty
 --   Tested, View, view    how the tests come out; a turn; a character that port p takes; a reset or new setup; a stop; or something that leaves
 --                         port p
@@ -22,7 +22,7 @@ use Rattle.unit.specs.Record.{noPort, freshPort, fresh, portAt}
 use Rattle.unit.specs.Reply.{counts, refused, accepted, World, world, Looked, looked}
 use Rattle.unit.specs.Refusals.{refusal, ofSetup, ofUnit, ofPort}
 use Rattle.unit.specs.laws.Replies.{setup-accepted}
-use Rattle.unit.specs.laws.Sound.{port-iff, inspection-iff}
+use Rattle.unit.specs.laws.Sound.{sound-iff, port-iff, inspection-iff}
 use Rattle.unit.specs.laws.Ports.{empty-inside}
 use Rattle.lines.specs.declared.signal.Signal.{Signal}
 use Rattle.lines.specs.declared.signal.Signal.the-variants.{Arrival, TransmitterEmpty, DeviceStatus}
@@ -30,17 +30,17 @@ use Rattle.lines.specs.Lines.{signalled, line}
 use Rattle.lines.specs.laws.Lines.{line-refused, line-accepted, line-keeps, line-sound, line-written, arrived, Marked, replaced}
 use Rattle.processor.specs.declared.orders.Order.{Order}
 use Rattle.processor.specs.declared.orders.Order.the-variants.{Reset, Iopls, Start, Doc, Dob, Dia, Dias, Tick}
-use Rattle.processor.specs.Processor.{resetPort, order, isReset, stops}
+use Rattle.processor.specs.Processor.{resetPort, order, isReset}
 use Rattle.processor.specs.Processor as Processor
-use Rattle.processor.specs.laws.Processor.{order-refused, order-accepted, order-keeps, order-stays-sound, runs-on}
+use Rattle.processor.specs.laws.Processor.{order-refused, order-accepted, order-keeps, order-stays-sound, stops, runs-on}
 use Rattle.scan.specs.Scan.{scanned}
 use Rattle.scan.specs.laws.Scan.{Kind, takes-turn, stands-still, kind, scan-moves, moves-sound}
 use Rattle.calls.specs.declared.call.Act.the-variants.{Line, Processor, Inspect}
 use Rattle.calls.specs.Calls.{settingUp, setUp, performed, stepOf, givenOf}
 use Rattle.calls.specs.laws.Refusals.{step-refuses}
 use Rattle.calls.specs.Events.{Single, setsUp, does, writes, result, after, counted}
-use Rattle.waiting.specs.Counting.{unrefused, isArrival, bringsTo, isClear, isBreak, takesAt, breaks}
-use Rattle.waiting.specs.Waiting.{P, Running, Empty, Counts, Takes, Stops}
+use Rattle.waiting.specs.Counting.{unrefused, isArrival, bringsTo, isClear, takesAt}
+use Rattle.waiting.specs.Waiting.{P, Running, Empty, Takes, Arrived, Stops, Counts, Clears, reset, setup, Breaks}
 
 -- the position stays, and a unit that runs runs on
 pub record Stays (w v : World) : Type 0 where
@@ -63,19 +63,18 @@ module _ (p : ℕ) (w : World) (a : Single) where
   then = portAt (after w a .mux) p
 
   -- how the tests come out
-  pub record Tested (count take break clear : Bool) : Type 0 where
+  pub record Tested (count take clear : Bool) : Type 0 where
     pub counts : counted w a ≡ count
     pub takes : takesAt p w a ≡ take
-    pub breaks : breaks w a ≡ break
     pub clears : isClear a && unrefused w a ≡ clear
 
   -- what a single thing does
   pub data View : Type 0 where
-    turn : Tested true false false false → Counts w a → result w a ≡ scanned (w .mux) (w .memory) → View
-    arrives : Tested false true false false → Takes p w a → Stays w (after w a) → (Empty p w → Empty p (after w a)) → (p < length (w .mux .port) → then .held ≡ true) → (now .held ≡ true → Marked then) → View
-    clear : Tested false false true true → Stops w a → then .held ≡ false → View
-    stop : Tested false false true false → Stops w a → Leaves now then → View
-    quiet : Tested false false false false → Stays w (after w a) → Leaves now then → View
+    turn : Tested true false false → Counts w a → result w a ≡ scanned (w .mux) (w .memory) → View
+    arrives : Tested false true false → (t : Takes p w a) → Stays w (after w a) → (Empty p w → Empty p (after w a)) → (p < length (w .mux .port) → Arrived p w a t) → (now .held ≡ true → Marked then) → View
+    clear : Tested false false true → Clears w a → Stops w a → then .held ≡ false → View
+    stop : Tested false false false → Breaks w a → Stops w a → Leaves now then → View
+    quiet : Tested false false false → Stays w (after w a) → Leaves now then → View
 
 -- a port that is as it was
 pub leaves-same : (x y : Port) → y ≡ x → Leaves x y
@@ -84,7 +83,7 @@ leaves-same x y e = rw e (record { held = refl; same = refl; empty = λ i. i })
 -- ---- refused or not
 
 -- what leaves everything
-same-view : (p : ℕ) (w : World) (a : Single) (k : ℕ) → Tested p w a false false false false → result w a ≡ looked (refused k (w .mux)) (w .memory) → View p w a
+same-view : (p : ℕ) (w : World) (a : Single) (k : ℕ) → Tested p w a false false false → result w a ≡ looked (refused k (w .mux)) (w .memory) → View p w a
 same-view p w a k t e =
     quiet t
     (subst (λ (v : World). Stays w v) (sym (ap (λ l. l .world) e)) (record { running = λ r. r; ports = refl; pos = refl }))
@@ -92,16 +91,16 @@ same-view p w a k t e =
 
 -- a refused single thing passes no test
 refused-view : (p : ℕ) (w : World) (a : Single) (k : ℕ) → (k ≡ 0 → ⊥) → result w a ≡ looked (refused k (w .mux)) (w .memory) → View p w a
-unfolding counted counts unrefused takesAt breaks
-refused-view p w a k h e = same-view p w a k (record { counts = rw e; takes = no (bringsTo p a); breaks = no (isBreak a); clears = no (isClear a) }) e
+unfolding counted counts unrefused takesAt
+refused-view p w a k h e = same-view p w a k (record { counts = rw e; takes = no (bringsTo p a); clears = no (isClear a) }) e
   where
     no : (b : Bool) → b && unrefused w a ≡ false
     no b = rw (e, ne-eqb k 0 h) (and-false b)
 
 -- an accepted one that is no inspection: each test is what is asked
-accepts : (p : ℕ) (w : World) (a : Single) (v : ℕ) (u : Mux) → result w a ≡ looked (accepted v u) (w .memory) → Tested p w a false (bringsTo p a) (isBreak a) (isClear a)
-unfolding counted counts unrefused takesAt breaks
-accepts p w a v u e = record { counts = rw e; takes = yes (bringsTo p a); breaks = yes (isBreak a); clears = yes (isClear a) }
+accepts : (p : ℕ) (w : World) (a : Single) (v : ℕ) (u : Mux) → result w a ≡ looked (accepted v u) (w .memory) → Tested p w a false (bringsTo p a) (isClear a)
+unfolding counted counts unrefused takesAt
+accepts p w a v u e = record { counts = rw e; takes = yes (bringsTo p a); clears = yes (isClear a) }
   where
     yes : (b : Bool) → b && unrefused w a ≡ b
     yes b = rw e (and-true b)
@@ -116,14 +115,14 @@ fresh-held (suc n) (suc p) = fresh-held n p
 
 -- a setup that is taken drops everything, and a refused one leaves the record that stands
 setup-view : (p : ℕ) (w : World) (s : Setting) → View p w (setsUp s)
-unfolding result setUp pick bringsTo isBreak isClear portAt stepOf givenOf
+unfolding result setUp pick bringsTo isClear portAt stepOf givenOf
 setup-view p w s = go (ℕ-discrete (refusal (ofSetup s)) 0)
   where
     go : Dec (refusal (ofSetup s) ≡ 0) → View p w (setsUp s)
     go (no h) =
         refused-view p w (setsUp s) _ h (ap (λ o. record { reply = o .reply; world = o .world }) (step-refuses w [] (settingUp s) .keeps h))
     go (yes z) =
-        clear (accepts p w (setsUp s) 0 (fresh s) (rw (setup-accepted s z))) (rw (setup-accepted s z)) (rw (setup-accepted s z) (fresh-held 128 p))
+        clear (accepts p w (setsUp s) 0 (fresh s) (rw (setup-accepted s z))) (setup s z refl) (rw (setup-accepted s z)) (rw (setup-accepted s z) (fresh-held 128 p))
 
 -- ---- the lines
 
@@ -140,8 +139,8 @@ module _ (w : World) (q : ℕ) (e : Signal) where
       }
 
   -- one that is not refused
-  pub takes-line : (p : ℕ) → refusal (ofPort (w .mux) q) ≡ 0 → Tested p w (does (Line q e)) false (eqb q p && isArrival e) false false
-  unfolding result performed bringsTo isBreak isClear
+  pub takes-line : (p : ℕ) → refusal (ofPort (w .mux) q) ≡ 0 → Tested p w (does (Line q e)) false (eqb q p && isArrival e) false
+  unfolding result performed bringsTo isClear
   takes-line p z = accepts p w (does (Line q e)) 0 _ (ap (λ r. looked r (w .memory)) (line-accepted (w .mux) q e z))
 
   -- it is quiet where it brings no character to port p and leaves what that port holds
@@ -167,7 +166,7 @@ own-line p w (Arrival c parity brk) z =
     (record { byte = c; parity = parity; brk = brk; arrival = refl; sound = s .0; below = s .1 })
     (line-stays w p (Arrival c parity brk))
     (λ f. ap (λ y. y .empty) (arrived (w .mux) p c parity brk z (empty-inside (w .mux) p f)) ∙ f)
-    (λ h. ap (λ y. y .held) (arrived (w .mux) p c parity brk z h))
+    (arrived (w .mux) p c parity brk z)
     (λ h. replaced (w .mux) p c parity brk h z)
 own-line p w TransmitterEmpty z = own-quiet p w TransmitterEmpty z refl (record { held = refl; same = refl; empty = λ i. refl })
 own-line p w (DeviceStatus level) z = own-quiet p w (DeviceStatus level) z refl (record { held = refl; same = refl; empty = λ i. i })
@@ -198,8 +197,8 @@ module _ (p : ℕ) (w : World) where
   order-leaves o h = leaves-same _ _ (ap (λ l. getD l p noPort) (order-keeps (w .mux) o h .port))
 
   -- an order that is not refused
-  takes-order : (o : Order) → refusal (ofUnit (w .mux)) ≡ 0 → Tested p w (does (Processor o)) false false (stops o) (isReset o)
-  unfolding result performed bringsTo isBreak isClear
+  takes-order : (o : Order) → refusal (ofUnit (w .mux)) ≡ 0 → Tested p w (does (Processor o)) false false (isReset o)
+  unfolding result performed bringsTo isClear
   takes-order o z = accepts p w (does (Processor o)) _ _ (ap (λ r. looked r (w .memory)) (order-accepted (w .mux) o z))
 
   -- an order that neither resets nor stops the unit
@@ -208,7 +207,7 @@ module _ (p : ℕ) (w : World) where
   order-quiet o h n z =
       let k = order-keeps (w .mux) o h in
       quiet
-      (rw (h, n) at (takes-order o z))
+      (rw h at (takes-order o z))
       (record {
         running = λ r. record { sound = order-stays-sound (w .mux) o (r .sound); runs = runs-on (w .mux) o n (r .runs) };
         ports = ap (λ s. s .ports) (k .setting);
@@ -221,9 +220,11 @@ module _ (p : ℕ) (w : World) where
   unfolding result performed portAt Processor.after
   own-order Reset z =
       clear (takes-order Reset z)
+      (reset (sound-iff (w .mux) .0 z) refl)
       (rw (order-accepted (w .mux) Reset z))
       (rw (order-accepted (w .mux) Reset z) (reset-held (w .mux .port) p))
-  own-order Dob z = stop (takes-order Dob z) (rw (order-accepted (w .mux) Dob z)) (order-leaves Dob refl)
+  own-order Dob z =
+      stop (takes-order Dob z) (Breaks.stop (sound-iff (w .mux) .0 z) refl) (rw (order-accepted (w .mux) Dob z)) (order-leaves Dob refl)
   own-order Iopls z = order-quiet Iopls refl refl z
   own-order Start z = order-quiet Start refl refl z
   own-order Doc z = order-quiet Doc refl refl z
@@ -242,10 +243,10 @@ module _ (p : ℕ) (w : World) where
 
 -- ---- an inspection, and a host write
 
--- an inspection is no arrival, no reset and no stop
-inspect-tests : (p : ℕ) (w : World) (b : Bool) → counted w (does Inspect) ≡ b → Tested p w (does Inspect) b false false false
-unfolding takesAt breaks bringsTo isBreak isClear
-inspect-tests p w b e = record { counts = e; takes = refl; breaks = refl; clears = refl }
+-- an inspection is no arrival and no reset
+inspect-tests : (p : ℕ) (w : World) (b : Bool) → counted w (does Inspect) ≡ b → Tested p w (does Inspect) b false false
+unfolding takesAt bringsTo isClear
+inspect-tests p w b e = record { counts = e; takes = refl; clears = refl }
 
 -- a turn, or nothing at all
 inspect-view : (p : ℕ) (w : World) → View p w (does Inspect)
@@ -263,10 +264,10 @@ inspect-view p w = go (kind (w .mux) (w .memory))
 
 -- the memory is no part of what waits
 write-view : (p : ℕ) (w : World) (m : List ℕ) → View p w (writes m)
-unfolding result counted counts takesAt breaks bringsTo isBreak isClear
+unfolding result counted counts takesAt bringsTo isClear
 write-view p w m =
     quiet
-    (record { counts = refl; takes = refl; breaks = refl; clears = refl })
+    (record { counts = refl; takes = refl; clears = refl })
     (record { running = λ r. record { sound = r .sound; runs = r .runs }; ports = refl; pos = refl })
     (leaves-same _ _ refl)
 
