@@ -2,8 +2,9 @@
 -- Each step is the definition that the call's own contract cites.
 --   setUp          a setup beside a record that stands
 --   performed      one thing asked of the unit that stands
+--   withList       a call that leaves the list as it was
 --   stepOf, step   one call
---   given          what a call is given, for the table of refusals
+--   givenTo, givenOf   what a call is given, for the table of refusals
 --   asking, settingUp   a call that is no setup, and one that is
 -- Not here: lists of calls, in Events; what follows, in laws/.
 -- Assumes nothing.

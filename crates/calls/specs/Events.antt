@@ -5,7 +5,7 @@
 --   singlesOf, singles     the single things that an event comes to where it happens, a sweep being the inspections that it makes
 --   single                 a single thing as an event
 --   counted                an inspection that counts
--- Not here: that running events is running their single things, in laws/Singles; what else a single thing may be, in waiting, Counting.
+-- Not here: that running events is running their single things, in laws/Singles; the other tests of a single thing, in waiting, Counting.
 -- Assumes nothing.
 use mathlib.Core.Bool.{Bool}
 use mathlib.Core.List.{List, [], _∷_, _++_}

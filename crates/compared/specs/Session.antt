@@ -2,7 +2,7 @@
 --   calledLent, standing, unitOrder   orders 1 to 14
 --   deskOrder, hostOrder              orders 20 to 25
 --   endOrder                          orders 30 and 31
---   order                             the order of the line that has been read
+--   orderBy, order                    any order by its numbers, 26 among them; the order of the line that has been read
 --   takeByte, played                  one byte of the text, and all of it: a fold
 --   shut                              the end of the text
 --   Turned, Driven                    what is known where the text comes from outside

@@ -3,7 +3,7 @@
 --   decimal                a number's digits
 --   after, lineOf, line    the bytes of a line
 --   Put                    bytes put into a text
--- Not here: which numbers an order prints, in Orders of the crate compared.
+-- Not here: which numbers an order prints, in Said of the crate compared.
 -- Assumes nothing.
 use mathlib.Core.Path.{_≡_}
 use mathlib.Core.List.{List, [], _∷_, _++_}

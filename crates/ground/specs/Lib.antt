@@ -1,7 +1,7 @@
 -- The ground: what every definition of the project is made with, and nothing of the multiplexer itself.
 --   Choose     choosing between two values by a test, the first row of a table that applies, a number with its bound
 --   Machine    any machine: runs, sums over a run, and what holds on the way
--- What follows from them stands in laws/: tests and tables (Rows), an array changed in place (Arrays), runs (Machine), places visited in
+-- What follows from them stands in laws/: tests and tables (Rows, Tests), an array changed in place (Arrays), runs (Machine), places visited in
 -- rotation (Rotation).
 pub mod Choose
 pub mod Machine

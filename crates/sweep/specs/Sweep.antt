@@ -1,5 +1,6 @@
 -- A sweep (document 01, Sweep).
 --   Going            a sweep on its way: the counts, the record, the memory and the list
+--   entryOf          a byte handed over as the list has it
 --   entered, going   one inspection more
 --   sweepFrom        as many inspections as the rule asks
 --   sweep            the call, with its refusals

@@ -1,6 +1,8 @@
 -- Yes-or-no tests of a single thing in the world that it meets, for whoever counts.
 --   turnAt, serviceAt, inputAt, outputAt   port p's turn, and one that goes to a service, by what is answered
---   takesAt                                a character that port p takes, by what is asked and not refused
+--   unrefused, isArrival, bringsTo, isClear   what the next tests are made of: not refused; an arrival at port p; a reset or a setup
+--   takesAt                                a character that port p takes
+--   holdsAt                                of the world alone: port p holds a character
 --   replacesAt, dropsAt                    a held character that another replaces; one that a reset or a new setup drops
 -- Not here: inspections that count, in calls, Events; where each test is true, in Waiting, Tests.
 -- Assumes nothing.

@@ -17,8 +17,8 @@
 --   in any (k+1)·P inspections ..          soon of WithinKP; SecondBound
 --   no echo fills that transmitter         Echo
 --   whatever other lines do and the host writes   every statement is of any list of single things
--- A single thing is a call that is no sweep, or a host write. A list of calls with its sweeps comes to a list of single things (`events`, `door`), and every
--- list of single things is that of some calls (`windows`): so a window may begin and end inside a sweep.
+-- A single thing is a call that is no sweep, or a host write. Every statement is of any world and any list of single things, and a sweep comes to the inspections
+-- that it makes (`events`, `door`): so a window may begin and end inside one. Every list of single things is that of some calls (`windows`).
 -- Not here: events and single things, in calls, Events; the tests by which things are counted, in Counting; the turn of a port that goes to a service, in
 -- scan, Scan.
 -- Assumes nothing.
@@ -247,7 +247,7 @@ pub data Breaks (w : World) (a : Single) : Type 0 where
   stop : Sound (w .mux) → a ≡ does (Processor Dob) → Breaks w a
   clears : Clears w a → Breaks w a
 
--- Counting's tests are true exactly of what the records above say; and a running unit stops by a stop, a reset or a new setup, and by
+-- the tests of Counting, and `counted` of calls, Events, are true exactly of what the records above say; and a running unit stops by a stop, a reset or a new setup, and by
 -- nothing else
 pub record Tests : Type 0 where
   pub counting : (w : World) (a : Single) → (counted w a ≡ true) ↔ Counts w a

@@ -1,5 +1,5 @@
 -- A port's length and the cut of a character to it (document 01, what the lines do; 001, 4.2 bits 10 and 11).
--- Not here: when a character is cut, in lines; that every length has a code, in laws/Length.
+-- Not here: when a character is cut, in lines; that there is at least one code of any length, in laws/Length.
 -- Assumes nothing.
 use Prim.Native.Nat.{ℕ, _+_, _%_, _^_}
 use Rattle.words.specs.Field.{get}

@@ -1,4 +1,4 @@
--- Words and pointers: what the contracts of the leaves cite, one file for each file of src/.
+-- Words and pointers: what the contracts of the leaves cite, one file for each file of src/ but ascii.rt, whose definitions are in Codes.
 --   Field     a bit field of a word: its value, and the word with another value in it
 --   Codes     the one table of bit codes of document 01 and of the EDS-8 manual (001)
 --   Pointer   a byte pointer's step, and whether a buffer's end is reached

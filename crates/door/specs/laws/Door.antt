@@ -3,10 +3,11 @@
 --   AsItWas, call-refused  a refusal leaves the lent record, the memory and the list as they were, and no further result
 --   Same, call-one         any two outcomes that the door's contract allows are equal
 --   made-run               after a list of calls made through the door the record and the memory are `run`'s
+--   made-split             and after each first part of it
 -- Not here: the case analysis of the calls, in laws/Refusals and laws/Outcomes of the crate calls.
 -- Assumes nothing.
 use mathlib.Core.Path.{_≡_, refl, _∙_, ap}
-use mathlib.Core.List.{List}
+use mathlib.Core.List.{List, [], _∷_, _++_}
 use Prim.Native.Nat.{ℕ}
 use Rattle.ground.specs.Machine
 use Rattle.unit.specs.declared.mux.Mux.{Mux}
@@ -16,7 +17,7 @@ use Rattle.unit.specs.Reply.{nothing, World, world, Outcome}
 use Rattle.unit.specs.Refusals.{refusal}
 use Rattle.calls.specs.declared.call.Call.{Call}
 use Rattle.calls.specs.Calls.{givenOf}
-use Rattle.calls.specs.Events.{Event, happens, run}
+use Rattle.calls.specs.Events.{Event, calls, hostWrites, happens, run}
 use Rattle.calls.specs.laws.Refusals.{step-refuses}
 use Rattle.calls.specs.laws.Outcomes.{one-outcome}
 use Rattle.door.specs.Door.{Meets, Made, ready, called, written}
@@ -73,3 +74,13 @@ unfolding Machine.run happens
 made-run ready = refl
 made-run (called {es = es} c r u m xs ys e rest) = made-run rest ∙ ap (λ (o : Outcome). run (o .world) es) e
 made-run (written m rest) = made-run rest
+
+-- a list of calls made through the door is its first part, and then the rest
+pub made-split : {w v : World} (es fs : List Event) → Made w (es ++ fs) v → (u : World) × (Made w es u × Made u fs v)
+made-split {w = w} [] fs m = (w, (ready, m))
+made-split (calls c xs ∷ es) fs (called _ r u m _ ys e rest) =
+    let s = made-split es fs rest in
+    (s .0, (called c r u m xs ys e (s .1 .0), s .1 .1))
+made-split (hostWrites m ∷ es) fs (written _ rest) =
+    let s = made-split es fs rest in
+    (s .0, (written m (s .1 .0), s .1 .1))

@@ -6,6 +6,7 @@
 --   reset-is .. reset-bits        a unit after reset: at rest at port 0; each port's speed bits 000, its other control bits and its Device
 --                                 Status line kept
 --   stops, runs-on, runs-after    of a unit that runs: DOB and reset stop it, and no other order does
+--   dob-is, doc-is                DOB stops a unit, DOC sets it going
 --   dia-shows, start-clears, dias-is   DIA shows the status word; START clears it and the flag; DIAS is DIA, then START
 --   tick-on, tick-off             a tick with the clock on and with it off
 -- Not here: laws of the interrupt side itself, in interrupt, laws/Interrupt; a run of many orders, in waiting.
@@ -225,6 +226,11 @@ runs-after u o s r = rw (order-sound u o s) (after-runs u o r)
 pub dob-is : (u : Mux) → Sound u → order u Dob ≡ accepted 0 (switched u false (u .clock) (u .irq))
 unfolding after
 dob-is u s = order-sound u Dob s
+
+-- DOC is taken by a sound unit, and sets it going
+pub doc-is : (u : Mux) → Sound u → order u Doc ≡ accepted 0 (switched u true (u .clock) (u .irq))
+unfolding after
+doc-is u s = order-sound u Doc s
 
 -- ---- DIA, START, DIAS, the tick
 

@@ -4,6 +4,7 @@
 --   Looks                             so many inspections one after the other, and whether the last one raised an interrupt
 --   Sweeping, sweeps                  a sweep is the composition of the inspections it counts: n, or fewer only because the last one raised
 --   Listed, listed                    what the sweep leaves in the list
+--   entry-example                     port 3, byte 65
 --   handed, Gathers, gathers          the places used hold what the inspections handed over, in order
 --   looks-keep                        what every inspection keeps, inspections one after the other keep
 --   sweep-refused, sweep-accepted     the call

@@ -2,6 +2,7 @@
 --   Wait, waits-for                 what must be known of a wait at port p, and what then becomes of it
 --   input-fate, output-fate         what becomes of a held character, and of an empty transmitter
 --   each-port-once                  every port has its turn in P of them
+--   since-places, arrived-fate, handed-fate   the 128 places since a setup; the first bound; the second
 --   demand                          the whole statement
 -- Not here: that a character is served once, in Balance; what the tests mean, in Tests.
 -- Assumes nothing.

@@ -1,10 +1,10 @@
--- The bounds are real and no wider than they must be, and the words mean what they say: examples, computed but for two.
+-- The bounds are real and no wider than they must be, and the words mean what they say: examples, and two corollaries.
 --   echoing, typing             a port whose own echo fills its transmitter; one whose input is served first and its output then
 --   Real, real                  both bounds are reached, and the exception of the second is real
 --   exactly-P, exactly-kP       the bounds themselves are enough: P inspections, and (k+1)·P
 --   heldDown .. key-held-down   a key held down: a character that one of the same code and marks replaced is not broken off by a stop that comes later
 --   idleLine, idle-line         an idle line: once its output was served, a stop that comes later breaks no wait
--- Not here: that it is served by the fourth inspection and not before, and by the first where the position is its port's, in calls, Examples.
+-- Not here: what each of the four inspections served, in calls, Examples.
 -- Assumes nothing.
 use mathlib.Core.Path.{_≡_, refl, _∙_, ap}
 use mathlib.Core.Bool.{false, true≢false}
@@ -44,6 +44,7 @@ pub record Real : Type 0 where
   pub fourth : inputs 0 waiting (replicate 4 look) ≡ 1
   pub fifth : inputs 0 waiting (replicate 5 look) ≡ 1
   -- (1 + 1) · P inspections with P 1: the first goes to input, the second serves the output
+  pub first-in : inputs 0 typing (replicate 1 look) ≡ 1
   pub not-yet : outputs 0 typing (replicate 1 look) ≡ 0
   pub then : outputs 0 typing (replicate 2 look) ≡ 1
   -- the exception of the second bound: (1 + 1) · P inspections with P 1, one own turn to input, and no output, for the echo filled the transmitter
@@ -55,7 +56,7 @@ pub record Real : Type 0 where
 
 pub real : Real
 unfolding everything serviceAt
-real = record { counted = refl; third = refl; fourth = refl; fifth = refl; not-yet = refl; then = refl; empty = refl; both = refl; one = refl; full = refl; none = refl }
+real = record { counted = refl; third = refl; fourth = refl; fifth = refl; first-in = refl; not-yet = refl; then = refl; empty = refl; both = refl; one = refl; full = refl; none = refl }
 
 -- ---- the bounds themselves are enough
 

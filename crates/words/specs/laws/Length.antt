@@ -1,4 +1,4 @@
--- Every length has a code.
+-- A character of any length has at least one code.
 -- Not here: what a length is, in specs/Length.
 -- Assumes nothing.
 use Prim.Native.Nat.{ℕ, _<_}
