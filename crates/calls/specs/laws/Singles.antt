@@ -24,7 +24,7 @@ use Rattle.unit.specs.Sound.{Sound}
 use Rattle.unit.specs.laws.Sound.{sweep-iff}
 use Rattle.scan.specs.laws.Scan.{sound-scans, scan-moves, inspection-sound}
 use Rattle.sweep.specs.Sweep.{Going, going, setOut, sweep}
-use Rattle.sweep.specs.laws.Sweep.{look, Looks, none, last, more, sweeps, sweep-refused, sweep-accepted}
+use Rattle.sweep.specs.laws.Sweep.{look, Looks, none, last, more, standing, sweeps, sweep-refused, sweep-accepted}
 use Rattle.calls.specs.declared.call.Act.the-variants.{Inspect}
 use Rattle.calls.specs.declared.call.What.{What}
 use Rattle.calls.specs.declared.call.What.the-variants.{Setup, Do, Sweep}
@@ -33,17 +33,13 @@ use Rattle.calls.specs.Events.{Event, calls, hostWrites, happens, run, S
 
 -- ---- a sweep
 
--- where a sweep on its way stands
-abbrev at : Going → World
-at s = world (s .mux) (s .memory)
-
 -- an inspection of a sweep on its way
-inspect-at : (s : Going) → after (at s) (does Inspect) ≡ at (going s (look s))
+inspect-at : (s : Going) → after (standing s) (does Inspect) ≡ standing (going s (look s))
 unfolding result performed going
 inspect-at s = refl
 
 -- inspections one after the other
-looks-run : {k : ℕ} {b : Bool} {s t : Going} → Looks k b s t → runSingles (at s) (replicate k (does Inspect)) ≡ at t
+looks-run : {k : ℕ} {b : Bool} {s t : Going} → Looks k b s t → runSingles (standing s) (replicate k (does Inspect)) ≡ standing t
 unfolding Machine.run
 looks-run none = refl
 looks-run (last {s = s} r i) = inspect-at s
@@ -55,7 +51,7 @@ record Ready (s : Going) : Type 0 where
   words : length (s .memory) ≡ WORDS
 
 -- its next inspection counts
-look-counts : (s : Going) → Ready s → s .mux .runs ≡ true → counted (at s) (does Inspect) ≡ true
+look-counts : (s : Going) → Ready s → s .mux .runs ≡ true → counted (standing s) (does Inspect) ≡ true
 unfolding counted result performed
 look-counts s h r = rw (sound-scans (s .mux) (s .memory) (h .sound) r (h .words)) (scan-moves (s .mux) (s .memory) .is-turn)
 
@@ -69,7 +65,7 @@ look-ready s h r =
     }
 
 -- each of them counts
-looks-count : {k : ℕ} {b : Bool} {s t : Going} → Ready s → Looks k b s t → tally after counted (at s) (replicate k (does Inspect)) ≡ k
+looks-count : {k : ℕ} {b : Bool} {s t : Going} → Ready s → Looks k b s t → tally after counted (standing s) (replicate k (does Inspect)) ≡ k
 unfolding total bit
 looks-count h none = refl
 looks-count h (last {s = s} r i) = rw (look-counts s h r)

@@ -3,7 +3,7 @@
 --   sweep-end, -stopped, -raised, -more   how a sweep goes on
 --   Looks                             so many inspections one after the other, and whether the last one raised an interrupt
 --   Sweeping, sweeps                  a sweep is the composition of the inspections it counts: n, or fewer only because the last one raised
---   Listed, listed                    what the sweep leaves in the list
+--   Listed, one-listed                what one inspection leaves of the list
 --   entry-example                     port 3, byte 65
 --   handed, Gathers, gathers          the places used hold what the inspections handed over, in order
 --   looks-keep                        what every inspection keeps, inspections one after the other keep
@@ -15,13 +15,13 @@
 use mathlib.Core.Path.{_≡_, refl, sym, _∙_, ap}
 use mathlib.Core.Bool.{Bool, true, false, true≢false}
 use mathlib.Core.List.{List, [], _∷_, _++_}
-use Prim.Native.Nat.{ℕ, zero, suc, _+_, _<_, _≤_}
+use Prim.Native.Nat.{ℕ, zero, suc, _+_, _≤_}
 use native.Mathlib.Decide.{ℕ-discrete}
 use native.Mathlib.Nat.{zero-add, add-zero}
 use native.Mathlib.Omega.{arith}
 use lib.Dec.{eqb}
-use lib.ListN.{length, getD, set, drop, length-set}
-use lib.Seq.{getD-set-other, sets, sets-eq}
+use lib.ListN.{length, set, drop, length-set}
+use lib.Seq.{sets, sets-eq}
 use borrow.Author.Tests.{eq-eqb, ne-eqb}
 use Rattle.ground.specs.Choose.{pick, bit}
 use Rattle.ground.specs.laws.Rows.{pick-true, pick-false}
@@ -117,46 +117,18 @@ sweeps (suc n) s = go (s .mux .runs) refl (look s .reply .answer .raised) refl (
 
 -- ---- the list
 
--- what inspections leave in the list: its length, the places before and after those used, and no more places used than inspections made
-pub record Listed (k : ℕ) (s t : Going) : Type 0 where
+-- what one inspection leaves of the list: its length, and at most one place more is used
+pub record Listed (s t : Going) : Type 0 where
   pub long : length (t .list) ≡ length (s .list)
-  pub least : s .used ≤ t .used
-  pub most : t .used ≤ s .used + k
-  pub before : (i : ℕ) → i < s .used → getD (t .list) i 0 ≡ getD (s .list) i 0
-  pub past : (i : ℕ) → t .used ≤ i → getD (t .list) i 0 ≡ getD (s .list) i 0
+  pub most : t .used ≤ s .used + 1
 
--- one inspection
-pub one-listed : (s : Going) (l : Looked) → Listed 1 s (going s l)
+pub one-listed : (s : Going) (l : Looked) → Listed s (going s l)
 unfolding going entered pick bit
 one-listed s l = go (l .reply .answer .sent)
   where
-    go : (b : Bool) → Listed 1 s (record { made = s .made + 1; used = s .used + bit b; mux = l .world .mux; memory = l .world .memory; list = pick b (set (s .list) (s .used) (entryOf (l .reply .answer))) (s .list) })
-    go true =
-        record {
-          long = length-set (s .list) (s .used) (entryOf (l .reply .answer));
-          least = omega arith;
-          most = omega arith;
-          before = λ i h. getD-set-other (s .list) (s .used) i (entryOf (l .reply .answer)) 0 (omega arith);
-          past = λ i h. getD-set-other (s .list) (s .used) i (entryOf (l .reply .answer)) 0 (omega arith);
-        }
-    go false = record { long = refl; least = omega arith; most = omega arith; before = λ i h. refl; past = λ i h. refl }
-
--- inspections after one inspection
-then-listed : {k : ℕ} {s u t : Going} → Listed 1 s u → Listed k u t → Listed (suc k) s t
-then-listed a b =
-    record {
-      long = b .long ∙ a .long;
-      least = omega (arith, a .least, b .least);
-      most = omega (arith, a .most, b .most);
-      before = λ i h. b .before i (omega (arith, a .least)) ∙ a .before i h;
-      past = λ i h. b .past i h ∙ a .past i (omega (arith, b .least));
-    }
-
--- inspections one after the other
-pub listed : {k : ℕ} {b : Bool} {s t : Going} → Looks k b s t → Listed k s t
-listed none = record { long = refl; least = omega arith; most = omega arith; before = λ i h. refl; past = λ i h. refl }
-listed (last {s = s} r i) = one-listed s (look s)
-listed (more {s = s} r i rest) = then-listed (one-listed s (look s)) (listed rest)
+    go : (b : Bool) → Listed s (record { made = s .made + 1; used = s .used + bit b; mux = l .world .mux; memory = l .world .memory; list = pick b (set (s .list) (s .used) (entryOf (l .reply .answer))) (s .list) })
+    go true = record { long = length-set (s .list) (s .used) (entryOf (l .reply .answer)); most = omega arith }
+    go false = record { long = refl; most = omega arith }
 
 -- ---- what is handed over
 
@@ -175,6 +147,19 @@ handed zero w = []
 handed (suc k) w =
     let l = inspection (w .mux) (w .memory) in
     handedBy (l .reply .answer) ++ handed k (l .world)
+
+-- no more than they are
+handed-few : (k : ℕ) (w : World) → length (handed k w) ≤ k
+unfolding handed handedBy pick
+handed-few zero w = omega arith
+handed-few (suc k) w = by (l .reply .answer .sent) (handed-few k (l .world))
+  where
+    l : Looked
+    l = inspection (w .mux) (w .memory)
+
+    by : (b : Bool) → length (handed k (l .world)) ≤ k → length (pick {A = List ℕ} b (entryOf (l .reply .answer) ∷ []) [] ++ handed k (l .world)) ≤ suc k
+    by true h = omega arith
+    by false h = omega arith
 
 -- the record and the memory of a sweep on its way
 abbrev pub standing : Going → World
@@ -263,7 +248,7 @@ gathered u m n xs e =
     let k = went .number in
     let g = gathers (went .looks) in
     let made : k ≡ t .made = omega (arith, went .count) in
-    let fits : 0 + length (handed k w) ≤ length xs = omega (arith, g .places, listed (went .looks) .most, went .few, sweep-iff u m n xs .0 e .places) in
+    let fits : 0 + length (handed k w) ≤ length xs = omega (arith, handed-few k w, went .few, sweep-iff u m n xs .0 e .places) in
     rw (sweep-accepted u m n xs e)
     (record {
       places = g .places ∙ zero-add (length (handed k w)) ∙ ap (λ (j : ℕ). length (handed j w)) made;
