@@ -1,5 +1,5 @@
 -- Demand 3, proved: both bounds are the law of a rotation (ground, laws/Rotation), with what one single thing does (View) in its place.
---   Wait, waits-for                 what must be known of a wait at port p, and what then becomes of it
+--   Wait, waits-for, ended-by       what must be known of a wait at port p, what then becomes of it, and by what it ended
 --   input-fate, output-fate         what becomes of a held character, and of an empty transmitter
 --   each-port-once                  every port has its turn in P of them
 --   since-places, arrived-fate, handed-fate   the 128 places since a setup; the first bound; the second
@@ -17,7 +17,7 @@ use native.Mathlib.Omega.{arith}
 use lib.Dec.{eqb}
 use lib.ListN.{length}
 use Rattle.ground.specs.Choose.{bit}
-use Rattle.ground.specs.Machine.{Throughout, Every, Until}
+use Rattle.ground.specs.Machine.{Throughout, Every}
 use Rattle.ground.specs.laws.Machine.{run-keeps, never, throughout-map, until-map, until-le, total-same}
 use Rattle.ground.specs.laws.Rotation.{Goes, ends, passes, rests, Within, Outcome, ended, waits, bound, Moves, each-once}
 use Rattle.interrupt.specs.declared.Service.the-variants.{Input, Output}
@@ -36,7 +36,7 @@ use Rattle.calls.specs.laws.Singles.{run-singles, singles-single, sweep-counts}
 use Rattle.calls.specs.laws.Places.{setup-places, keeps-places}
 use Rattle.door.specs.laws.Door.{made-run}
 use Rattle.waiting.specs.Counting.{turnAt, serviceAt, inputAt, outputAt, takesAt, holdsAt}
-use Rattle.waiting.specs.Waiting.{P, Running, Holds, Empty, Takes, Arrived, ServiceTurn, Stops, inspections, inputs, While, WithinP, InputServed, Replacement, Served, Replaced, Fate, HeldCharacter, FirstBound, WithinKP, Echo, OutputServed, OutputFate, EmptyTransmitter, SecondBound, Rotation, Places, Demand}
+use Rattle.waiting.specs.Waiting.{P, Running, Holds, Empty, Takes, Arrived, ServiceTurn, Stops, inspections, inputs, While, Ended, Lasts, WithinP, InputServed, Replacement, Served, Replaced, Fate, HeldCharacter, FirstBound, WithinKP, Echo, OutputServed, OutputFate, EmptyTransmitter, SecondBound, Rotation, Places, Demand}
 use Rattle.waiting.specs.laws.View.{Stays, Leaves, leaves-same, Tested, View, turn, arrives, clear, stop, quiet, view, turn-moves}
 use Rattle.waiting.specs.laws.Tests.{counts-names, tests, arriving}
 use Rattle.waiting.specs.laws.Balance.{uncounted, elsewhere, own-left, keeps-place, balance, not-again}
@@ -112,14 +112,21 @@ module _ (p : ℕ) (own barred : World → Single → Bool) (C : World → Type 
       go (stop d b s l) = ends (k .stopped w a s)
       go (quiet d s l) = stays (k .no-turn w a (d .takes) (d .counts)) (d .counts) s (k .left w (after w a) l (o .meanwhile))
 
-  -- so over any list it ends or goes on, within the bound
-  waits-for : Wait → (w : World) (xs : List Single) → Running w → p < P w → C w → Outcome after at (P w) p counted own barred (While C) End (P w - 1) w xs
-  waits-for k w xs r b c =
+  -- so over any list it ended or lasts, within the bound that the turns give
+  waits-for : Wait → (Bound : World → List Single → Type 0) (w : World) (xs : List Single) → Running w → p < P w → C w → ((ys : List Single) → Within after at (P w) p counted own barred (On (P w)) End (P w - 1) w ys → Bound w ys) → Ended C Bound End w xs ⊎ Lasts C Bound w xs
+  waits-for k Bound w xs r b c each =
       go (bound after at (P w) p counted own barred (On (P w)) End (on-below (P w)) (goes k (P w)) w xs b (record { running = r; ports = refl; meanwhile = c }))
     where
-      go : Outcome after at (P w) p counted own barred (On (P w)) End (P w - 1) w xs → Outcome after at (P w) p counted own barred (While C) End (P w - 1) w xs
-      go (ended u e f) = ended (until-map after (On (P w)) (While C) (λ v o. (o .running, o .meanwhile)) w xs u) e (record { none-barred = f .none-barred; few = f .few })
-      go (waits t f) = waits (throughout-map after (On (P w)) (While C) (λ v o. (o .running, o .meanwhile)) w xs t) (record { none-barred = f .none-barred; few = f .few })
+      meant : (v : World) → On (P w) v → While C v
+      meant v o = (o .running, o .meanwhile)
+
+      go : Outcome after at (P w) p counted own barred (On (P w)) End (P w - 1) w xs → Ended C Bound End w xs ⊎ Lasts C Bound w xs
+      go (ended u e f) = inl (record { wait = until-map after (On (P w)) (While C) meant w xs u; bound = each (u .before) f; end = e })
+      go (waits t f) = inr (record { still = throughout-map after (On (P w)) (While C) meant w xs t; bound = each xs f })
+
+-- a wait by what ended it
+ended-by : {C : World → Type 0} {Bound : World → List Single → Type 0} {End : World → Single → Type 0} (By : World → Single → Type 0) {w : World} {xs : List Single} (u : Ended C Bound End w xs) → By (runSingles w (u .wait .before)) (u .wait .here) → Ended C Bound By w xs
+ended-by By u e = record { wait = u .wait; bound = u .bound; end = e }
 
 -- ---- a held character
 
@@ -151,19 +158,18 @@ held-wait p c b =
 -- what becomes of a held character
 input-fate : HeldCharacter
 unfolding none
-input-fate w p c xs r b h = go (waits-for p none (takesAt p) (Holds p c) (HeldEnd p) (held-wait p c (omega (arith, r .sound .setting .size .few-ports))) w xs r b h)
+input-fate w p c xs r b h =
+    fate (waits-for p none (takesAt p) (Holds p c) (HeldEnd p) (held-wait p c (omega (arith, r .sound .setting .size .few-ports))) (WithinP p) w xs r b h
+    (λ ys f. record { alone = f .none-barred; soon = omega (arith, rw (never after w ys) at (f .few)) }))
   where
-    first : (ys : List Single) → Within after at (P w) p counted none (takesAt p) (While (Holds p c)) (HeldEnd p) (P w - 1) w ys → WithinP p w ys
-    first ys f = record { alone = f .none-barred; soon = omega (arith, rw (never after w ys) at (f .few)) }
+    at-end : (u : Ended (Holds p c) (WithinP p) (HeldEnd p) w xs) → HeldEnd p (runSingles w (u .wait .before)) (u .wait .here) → Fate p c w xs
+    at-end u (taken e) = Fate.served (ended-by (InputServed p) u e)
+    at-end u (pushed e) = Fate.replaced (ended-by (Replacement p) u e)
+    at-end u (HeldEnd.stopped e) = Fate.broken (ended-by Stops u e)
 
-    at-end : (u : Until after (While (Holds p c)) w xs) → WithinP p w (u .before) → HeldEnd p (runSingles w (u .before)) (u .here) → Fate p c w xs
-    at-end u f (taken e) = Fate.served (record { wait = u; bound = f; end = e })
-    at-end u f (pushed e) = Fate.replaced (record { wait = u; bound = f; end = e })
-    at-end u f (HeldEnd.stopped e) = Fate.broken (record { wait = u; bound = f; end = e })
-
-    go : Outcome after at (P w) p counted none (takesAt p) (While (Holds p c)) (HeldEnd p) (P w - 1) w xs → Fate p c w xs
-    go (ended u e f) = at-end u (first (u .before) f) e
-    go (waits t f) = Fate.waits (record { still = t; bound = first xs f })
+    fate : Ended (Holds p c) (WithinP p) (HeldEnd p) w xs ⊎ Lasts (Holds p c) (WithinP p) w xs → Fate p c w xs
+    fate (inl u) = at-end u (u .end)
+    fate (inr l) = Fate.waits l
 
 -- ---- an empty transmitter
 
@@ -211,19 +217,18 @@ free-wait p =
 
 -- what becomes of an empty transmitter
 output-fate : EmptyTransmitter
-output-fate w p xs r b h = go (waits-for p (inputAt p) (outputAt p) (Empty p) (FreeEnd p) (free-wait p) w xs r b h)
+output-fate w p xs r b h =
+    fate (waits-for p (inputAt p) (outputAt p) (Empty p) (FreeEnd p) (free-wait p) (WithinKP p) w xs r b h
+    (λ ys f. record { unserved = f .none-barred; soon = omega (arith, f .few) }))
   where
-    second : (ys : List Single) → Within after at (P w) p counted (inputAt p) (outputAt p) (While (Empty p)) (FreeEnd p) (P w - 1) w ys → WithinKP p w ys
-    second ys f = record { unserved = f .none-barred; soon = omega (arith, f .few) }
+    at-end : (u : Ended (Empty p) (WithinKP p) (FreeEnd p) w xs) → FreeEnd p (runSingles w (u .wait .before)) (u .wait .here) → OutputFate p w xs
+    at-end u (given e) = OutputFate.served (ended-by (ServiceTurn Output p) u e)
+    at-end u (filled e) = OutputFate.echoed (ended-by (Echo p) u e)
+    at-end u (FreeEnd.stopped e) = OutputFate.broken (ended-by Stops u e)
 
-    at-end : (u : Until after (While (Empty p)) w xs) → WithinKP p w (u .before) → FreeEnd p (runSingles w (u .before)) (u .here) → OutputFate p w xs
-    at-end u f (given e) = OutputFate.served (record { wait = u; bound = f; end = e })
-    at-end u f (filled e) = OutputFate.echoed (record { wait = u; bound = f; end = e })
-    at-end u f (FreeEnd.stopped e) = OutputFate.broken (record { wait = u; bound = f; end = e })
-
-    go : Outcome after at (P w) p counted (inputAt p) (outputAt p) (While (Empty p)) (FreeEnd p) (P w - 1) w xs → OutputFate p w xs
-    go (ended u e f) = at-end u (second (u .before) f) e
-    go (waits t f) = OutputFate.waits (record { still = t; bound = second xs f })
+    fate : Ended (Empty p) (WithinKP p) (FreeEnd p) w xs ⊎ Lasts (Empty p) (WithinKP p) w xs → OutputFate p w xs
+    fate (inl u) = at-end u (u .end)
+    fate (inr l) = OutputFate.waits l
 
 -- ---- every port has its turn
 

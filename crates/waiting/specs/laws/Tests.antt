@@ -1,5 +1,6 @@
 -- The tests of a single thing are true where the demand's words hold, and nowhere else.
 --   counts-scans, counts-names   an inspection that counts is a turn, and names the port at the position
+--   Reads, reads                 what a test that is true says, by the one case analysis
 --   tests                        each test
 --   arriving                     a character that is taken is held
 -- Not here: what a single thing does to a port, in View.
@@ -36,7 +37,27 @@ both : (x y : Bool) → x && y ≡ true → (x ≡ true) × (y ≡ true)
 both true y e = (refl, e)
 both false y e = absurd (false≢true e)
 
+-- a test that is false is not true
+never : {A : Type 0} {b : Bool} → b ≡ false → b ≡ true → A
+never f t = absurd (false≢true (sym f ∙ t))
+
 module _ (w : World) (a : Single) where
+  -- what a test that is true says
+  record Reads (p : ℕ) : Type 0 where
+    counts : counted w a ≡ true → Counts w a
+    takes : takesAt p w a ≡ true → Takes p w a
+    clears : isClear a && unrefused w a ≡ true → Clears w a
+
+  reads : (p : ℕ) → Reads p
+  reads p = by (view p w a)
+    where
+      by : View p w a → Reads p
+      by (turn t c e) = record { counts = λ n. c; takes = never (t .takes); clears = never (t .clears) }
+      by (arrives t k s e i m) = record { counts = never (t .counts); takes = λ n. k; clears = never (t .clears) }
+      by (clear t k s h) = record { counts = never (t .counts); takes = never (t .takes); clears = λ n. k }
+      by (View.stop t b s l) = record { counts = never (t .counts); takes = never (t .takes); clears = never (t .clears) }
+      by (quiet t s l) = record { counts = never (t .counts); takes = never (t .takes); clears = never (t .clears) }
+
   -- ---- counted
 
   -- an inspection that counts is a turn
@@ -46,14 +67,7 @@ module _ (w : World) (a : Single) where
 
   counting : (counted w a ≡ true) ↔ Counts w a
   unfolding counted
-  counting = (to (view 0 w a), λ c. rw (counts-scans c) (scan-moves (w .mux) (w .memory) .is-turn))
-    where
-      to : View 0 w a → counted w a ≡ true → Counts w a
-      to (turn t c e) n = c
-      to (arrives t k s e i m) n = absurd (false≢true (sym (t .counts) ∙ n))
-      to (clear t k s h) n = absurd (false≢true (sym (t .counts) ∙ n))
-      to (View.stop t b s l) n = absurd (false≢true (sym (t .counts) ∙ n))
-      to (quiet t s l) n = absurd (false≢true (sym (t .counts) ∙ n))
+  counting = (reads 0 .counts, λ c. rw (counts-scans c) (scan-moves (w .mux) (w .memory) .is-turn))
 
   -- ---- a turn
 
@@ -126,15 +140,8 @@ module _ (w : World) (a : Single) where
 
   taking : (p : ℕ) → (takesAt p w a ≡ true) ↔ Takes p w a
   unfolding isArrival
-  taking p = (to (view p w a), back)
+  taking p = (reads p .takes, back)
     where
-      to : View p w a → takesAt p w a ≡ true → Takes p w a
-      to (turn t c e) n = absurd (false≢true (sym (t .takes) ∙ n))
-      to (arrives t k s e i m) n = k
-      to (clear t k s h) n = absurd (false≢true (sym (t .takes) ∙ n))
-      to (View.stop t b s l) n = absurd (false≢true (sym (t .takes) ∙ n))
-      to (quiet t s l) n = absurd (false≢true (sym (t .takes) ∙ n))
-
       back : Takes p w a → takesAt p w a ≡ true
       back k =
           rw (k .arrival)
@@ -161,15 +168,8 @@ module _ (w : World) (a : Single) where
   unfolding dropsAt
   dropping p = (to, λ k. rw (cleared (k .0)) (k .1))
     where
-      by : View p w a → isClear a && unrefused w a ≡ true → Clears w a
-      by (turn t c e) n = absurd (false≢true (sym (t .clears) ∙ n))
-      by (arrives t k s e i m) n = absurd (false≢true (sym (t .clears) ∙ n))
-      by (clear t k s h) n = k
-      by (View.stop t b s l) n = absurd (false≢true (sym (t .clears) ∙ n))
-      by (quiet t s l) n = absurd (false≢true (sym (t .clears) ∙ n))
-
       to : (isClear a && unrefused w a) && holdsAt p w ≡ true → Clears w a × (holdsAt p w ≡ true)
-      to e = let b = both (isClear a && unrefused w a) (holdsAt p w) e in (by (view p w a) (b .0), b .1)
+      to e = let b = both (isClear a && unrefused w a) (holdsAt p w) e in (reads p .clears (b .0), b .1)
 
   -- a stop, a reset and a setup leave the unit stopped, and nothing else stops one that runs
   breaking : Running w → Stops w a ↔ Breaks w a

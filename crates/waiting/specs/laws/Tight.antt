@@ -2,18 +2,20 @@
 --   echoing, typing             a port whose own echo fills its transmitter; one whose input is served first and its output then
 --   Real, real                  both bounds are reached, and the exception of the second is real
 --   exactly-P, exactly-kP       the bounds themselves are enough: P inspections, and (k+1)·P
+--   over-at-once                a wait that the first of a list makes over
 --   heldDown .. key-held-down   a key held down: a character that one of the same code and marks replaced is not broken off by a stop that comes later
 --   idleLine, idle-line         an idle line: once its output was served, a stop that comes later breaks no wait
 -- Not here: what each of the four inspections served, in calls, Examples.
 -- Assumes nothing.
-use mathlib.Core.Path.{_≡_, refl, _∙_, ap}
-use mathlib.Core.Bool.{false, true≢false}
+use mathlib.Core.Path.{_≡_, refl, sym, _∙_, ap}
+use mathlib.Core.Bool.{Bool, true, false, true≢false}
 use mathlib.Core.List.{List, [], _∷_, _++_}
 use mathlib.Core.Logic.{_⊎_}
 use Prim.Native.Nat.{ℕ, _+_, _*_, _≤_, _<_}
 use native.Mathlib.Omega.{arith}
 use lib.ListN.{getD, replicate, set}
 use Rattle.ground.specs.Choose.{bit}
+use Rattle.ground.specs.Machine.{run, total, tally, Until}
 use Rattle.words.specs.Field.{put}
 use Rattle.words.specs.Codes.{INMO, inEcho}
 use Rattle.unit.specs.declared.mux.Character.{Character}
@@ -75,6 +77,17 @@ pub exactly-kP :
     OutputServed p w xs
 exactly-kP w p k xs r b e few quiet calm n = demand .second-bound w p k xs r b e few quiet calm (omega (arith, n)) .0
 
+-- ---- a wait that is over at once
+
+-- where the first of a list passes a test and stops nothing, no stop ends a wait in which nothing passed the test
+over-at-once : (w : World) (xs : List Single) (test : World → Single → Bool) → bit (test w (getD xs 0 look)) ≡ 1 → after w (getD xs 0 look) .mux .runs ≡ true → {C : World → Type 0} (u : Until after C w xs) → tally after test w (u .before) ≡ 0 → Stops (runSingles w (u .before)) (u .here) → ⊥
+unfolding total run
+over-at-once w xs test first runs u = by (u .before) (u .here) (u .later) (u .whole)
+  where
+    by : (before : List Single) (here : Single) (later : List Single) → xs ≡ before ++ (here ∷ later) → tally after test w before ≡ 0 → Stops (runSingles w before) here → ⊥
+    by [] here later e n s = true≢false (sym runs ∙ ap (λ l. after w (getD l 0 look) .mux .runs) e ∙ s)
+    by (a ∷ before) here later e n s = omega (arith, n, first, ap (λ l. bit (test w (getD l 0 look))) e)
+
 -- ---- a key held down
 
 -- one port that holds a marked character: the same key came twice
@@ -98,14 +111,10 @@ pub looks : Looks
 unfolding everything takesAt bringsTo isArrival unrefused
 looks = record { first = record { held = refl; same = refl }; still = record { held = refl; same = refl }; other = refl }
 
--- the stop did not break its wait, which was over: a wait in which no character was taken ends at the key itself, which stops nothing
+-- the stop did not break its wait, which was over
 pub key-held-down : Broken 0 key heldDown againAndStop → ⊥
 unfolding everything takesAt bringsTo isArrival unrefused
-key-held-down b = by (b .wait .before) (b .wait .here) (b .wait .later) (b .wait .whole) (b .bound .alone) (b .end)
-  where
-    by : (before : List Single) (here : Single) (later : List Single) → againAndStop ≡ before ++ (here ∷ later) → taken 0 heldDown before ≡ 0 → Stops (runSingles heldDown before) here → ⊥
-    by [] here later e n s = true≢false (ap (λ l. after heldDown (getD l 0 look) .mux .runs) e ∙ s)
-    by (a ∷ before) here later e n s = omega (arith, n, ap (λ l. bit (takesAt 0 heldDown (getD l 0 look))) e)
+key-held-down b = over-at-once heldDown againAndStop (takesAt 0) refl refl (b .wait) (b .bound .alone) (b .end)
 
 -- ---- an idle line
 
@@ -120,8 +129,4 @@ turnAndStop = look ∷ does (Processor Dob) ∷ []
 -- the transmitter is still empty when the stop comes, and the wait was over
 pub idle-line : OutputBroken 0 idleLine turnAndStop → ⊥
 unfolding everything serviceAt
-idle-line b = by (b .wait .before) (b .wait .here) (b .wait .later) (b .wait .whole) (b .bound .unserved) (b .end)
-  where
-    by : (before : List Single) (here : Single) (later : List Single) → turnAndStop ≡ before ++ (here ∷ later) → outputs 0 idleLine before ≡ 0 → Stops (runSingles idleLine before) here → ⊥
-    by [] here later e n s = true≢false (ap (λ l. after idleLine (getD l 0 look) .mux .runs) e ∙ s)
-    by (a ∷ before) here later e n s = omega (arith, n, ap (λ l. bit (outputAt 0 idleLine (getD l 0 look))) e)
+idle-line b = over-at-once idleLine turnAndStop (outputAt 0) refl refl (b .wait) (b .bound .unserved) (b .end)
