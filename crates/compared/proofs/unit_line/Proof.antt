@@ -2,9 +2,8 @@
 use mathlib.Core.Path.{sym}
 use Rattle.driver.specs.Printed.{nothing, and}
 use Rattle.driver.specs.Digest.{recordDigest}
-use mathlib.Core.List.{_∷_}
+use mathlib.Core.List.{_∷_, foldl-append}
 use Rattle.compared.specs.Said.{toldOf, lookedOf}
-use Rattle.compared.specs.laws.Session.{fold-two}
 use borrow.Author.Needs.{needs}
 use Rattle.compared.proofs.unit_line.Statement.{statement}
 use Rattle.compared.proofs.unit_line.Tie as tie
@@ -13,7 +12,7 @@ returns : tie.Need-returns
 returns c =
     let a = c .before .before .before .before .before .before .args in
     rw (c .looked .ensures, c .before .and .ensures, c .before .before .of-record .ensures .is, c .before .before .before .told .ensures)
-    (sym (fold-two and nothing (toldOf (a .n) (a .r)) (recordDigest (a .u) ∷ lookedOf (a .n) (a .places) (a .mem .now) (a .list .now))))
+    (sym (foldl-append and nothing (toldOf (a .n) (a .r)) (recordDigest (a .u) ∷ lookedOf (a .n) (a .places) (a .mem .now) (a .list .now))))
 
 pub unit-line-spec : {M : Type 1} → statement M
 unit-line-spec =

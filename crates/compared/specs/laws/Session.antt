@@ -1,12 +1,11 @@
--- Lines that are said in parts, texts that are taken in parts.
---   fold-two                                      a fold over two lists, one after the other
+-- A text that is taken in parts.
 --   carried-out                                   a newline carries the order out
 --   Reached, reached-none, reached-on, reached-driven   a run up to here
 -- Not here: folds from a place in a list on, in laws/Folds of the crate driver.
 -- Assumes nothing.
-use mathlib.Core.Path.{_≡_, refl, sym, _∙_, ap}
+use mathlib.Core.Path.{_≡_, sym, _∙_, ap}
 use mathlib.Core.Bool.{true, true≢false}
-use mathlib.Core.List.{List, [], _∷_, _++_, foldl}
+use mathlib.Core.List.{List, [], _++_, foldl-append}
 use Prim.Native.Nat.{ℕ}
 use borrow.Author.Tests.{eq-eqb}
 use Rattle.ground.specs.Choose.{pick}
@@ -14,11 +13,6 @@ use Rattle.driver.specs.Text.{blank, typed}
 use Rattle.compared.specs.declared.Desk.{Desk}
 use Rattle.compared.specs.Desk.{Kept, kept, newDesk, withLine}
 use Rattle.compared.specs.Session.{order, lined, takeByte, played, shut, Turned, read, ended, Driven}
-
--- a fold over two lists, one after the other
-pub fold-two : {A B : Type 0} (f : B → A → B) (b : B) (xs ys : List A) → foldl f b (xs ++ ys) ≡ foldl f (foldl f b xs) ys
-fold-two f b [] ys = refl
-fold-two f b (x ∷ xs) ys = fold-two f (f b x) xs ys
 
 -- a newline: the order of the line with it typed, and a blank line after
 pub carried-out : (k : Kept) (b : ℕ) (e r : Desk) (m xs : List ℕ) → b ≡ 10 → e ≡ withLine (k .desk) (typed (k .desk .line) b) → kept r m xs ≡ order (kept e (k .memory) (k .list)) → kept (withLine r blank) m xs ≡ takeByte k b
@@ -37,7 +31,7 @@ reached-none m xs d e = on [] (ap (λ (f : Desk). kept f m xs) e)
 -- one read more, of a desk that goes on
 pub reached-on : {k j i : Kept} → j .desk .going ≡ true → Reached k j → Turned j i → Reached k i
 reached-on {k} g (on text e) (read more f) =
-    on (text ++ more) (f ∙ ap (λ (x : Kept). played x more) e ∙ sym (fold-two takeByte k text more))
+    on (text ++ more) (f ∙ ap (λ (x : Kept). played x more) e ∙ sym (foldl-append takeByte k text more))
 reached-on {k} g (on text e) (ended f) = over text (f ∙ ap (λ (x : Kept). shut x) e)
 reached-on {k} g (over text e) t = absurd (true≢false (sym g ∙ ap (λ (x : Kept). x .desk .going) e))
 

@@ -11,7 +11,7 @@
 -- sweep and a call, in laws/Glottal of scan, sweep and door.
 -- Assumes nothing.
 use mathlib.Core.Path.{_≡_, _∙_, ap, refl, sym}
-use mathlib.Core.Bool.{Bool, true, false, not, _&&_, _||_}
+use mathlib.Core.Bool.{Bool, true, false, not, _&&_, _||_, or-true}
 use mathlib.Core.List.{List}
 use mathlib.Core.Logic.{_≢_, _⊎_, inl, inr}
 use Prim.Native.Nat.{ℕ, _+_, _/_, _%_, _<_, _≤_}
@@ -144,11 +144,7 @@ module _ (m : List ℕ) (a : ℕ) (q : Port) (placed : Placed m a) (h : Automati
 
   -- a special code is reported, its top bit 1, with its error code
   pub special : isSpecial (q .ch .byte) ≡ true → Reported m a q (codeOf q) (128 + q .ch .byte % 128)
-  special s = reported (second (not (eqb (codeOf q) flagNone)) (isSpecial (q .ch .byte)) s) (special-code (h .ascii) s)
-    where
-      second : (s t : Bool) → t ≡ true → (s || t) ≡ true
-      second true t e = refl
-      second false t e = e
+  special s = reported (rw s (or-true (not (eqb (codeOf q) flagNone)))) (special-code (h .ascii) s)
 
   -- so is any code with an error
   pub with-error : codeOf q ≢ flagNone → Reported m a q (codeOf q) (128 + q .ch .byte % 128)

@@ -6,7 +6,7 @@
 -- Not here: the service itself, in laws/Glottal of input; a sweep and a call that inspect, in laws/Glottal of sweep and of door.
 -- Assumes nothing.
 use mathlib.Core.Path.{_≡_, refl, ap, _∙_, subst}
-use mathlib.Core.Bool.{Bool, true, false, not, _&&_}
+use mathlib.Core.Bool.{Bool, true, false, not, _&&_, and-true}
 use mathlib.Core.List.{List}
 use Prim.Native.Nat.{ℕ}
 use lib.ListN.{length}
@@ -68,13 +68,9 @@ at-position u m code h =
       address = rw (r .one-interrupt);
       told = r .told;
       taken = rw e at (turn-takes u m);
-      transmitter = service-empty Input u m (held-inside u p (h .held)) ∙ ap (λ (t : Bool). portAt u p .empty && not t) (r .no-echo) ∙ as-it-was (portAt u p .empty);
+      transmitter = service-empty Input u m (held-inside u p (h .held)) ∙ ap (λ (t : Bool). portAt u p .empty && not t) (r .no-echo) ∙ and-true (portAt u p .empty);
       moves = rw e at (scan-moves u m);
     }
-  where
-    as-it-was : (b : Bool) → (b && true) ≡ b
-    as-it-was true = refl
-    as-it-was false = refl
 
 -- an inspection of such a unit, whatever port had the turn before
 pub glottal-seen : (u : Mux) (m : List ℕ) (p code : ℕ) → Waits u m p code → Delivered u m p code (inspection u m)

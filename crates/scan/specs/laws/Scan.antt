@@ -12,7 +12,7 @@
 -- Not here: what a turn is, in specs/Turn; what a service does to the memory, in laws/Kept of input and of output; bounds on waiting, in waiting.
 -- Assumes nothing.
 use mathlib.Core.Path.{_≡_, refl, ap, sym, _∙_}
-use mathlib.Core.Bool.{Bool, true, false, not, _&&_, false≢true}
+use mathlib.Core.Bool.{Bool, true, false, not, _&&_, and-false, false≢true}
 use mathlib.Core.List.{List}
 use mathlib.Core.Logic.{_⊎_, inl, inr}
 use Prim.Native.Nat.{ℕ, _+_, _%_, _<_}
@@ -275,11 +275,7 @@ service-empty Output u m h = ap (λ x. x .empty) (port-same u _ (u .pos) _ refl 
 
 -- a service that handed a byte to the transmitter, as an echo or as output, leaves it not empty
 pub service-sent : (k : Service) (u : Mux) (m : List ℕ) → u .pos < length (u .port) → serviceTurn k u m .reply .answer .sent ≡ true → portAt (serviceTurn k u m .world .mux) (u .pos) .empty ≡ false
-service-sent k u m h s = service-empty k u m h ∙ ap (λ (t : Bool). portAt u (u .pos) .empty && not t) s ∙ full (portAt u (u .pos) .empty)
-  where
-    full : (b : Bool) → (b && false) ≡ false
-    full true = refl
-    full false = refl
+service-sent k u m h s = service-empty k u m h ∙ ap (λ (t : Bool). portAt u (u .pos) .empty && not t) s ∙ and-false (portAt u (u .pos) .empty)
 
 -- so does an inspection: a port that was served is one of the array's
 pub inspection-sent : (u : Mux) (m : List ℕ) → inspection u m .reply .answer .sent ≡ true → portAt (inspection u m .world .mux) (u .pos) .empty ≡ false
