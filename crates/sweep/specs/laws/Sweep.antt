@@ -148,19 +148,6 @@ handed (suc k) w =
     let l = inspection (w .mux) (w .memory) in
     handedBy (l .reply .answer) ++ handed k (l .world)
 
--- no more than they are
-handed-few : (k : ℕ) (w : World) → length (handed k w) ≤ k
-unfolding handed handedBy pick
-handed-few zero w = omega arith
-handed-few (suc k) w = by (l .reply .answer .sent) (handed-few k (l .world))
-  where
-    l : Looked
-    l = inspection (w .mux) (w .memory)
-
-    by : (b : Bool) → length (handed k (l .world)) ≤ k → length (pick {A = List ℕ} b (entryOf (l .reply .answer) ∷ []) [] ++ handed k (l .world)) ≤ suc k
-    by true h = omega arith
-    by false h = omega arith
-
 -- the record and the memory of a sweep on its way
 abbrev pub standing : Going → World
 standing s = world (s .mux) (s .memory)
@@ -206,6 +193,19 @@ pub gathers : {k : ℕ} {b : Bool} {s t : Going} → Looks k b s t → Gathers k
 gathers (none {s = s}) = no-more s
 gathers (last {s = s} r i) = then-gathers (no-more (going s (look s)))
 gathers (more r i rest) = then-gathers (gathers rest)
+
+-- inspections hand over no more than they are
+handed-few : (k : ℕ) (w : World) → length (handed k w) ≤ k
+unfolding handed handedBy pick
+handed-few zero w = omega arith
+handed-few (suc k) w = by (l .reply .answer .sent) (handed-few k (l .world))
+  where
+    l : Looked
+    l = inspection (w .mux) (w .memory)
+
+    by : (b : Bool) → length (handed k (l .world)) ≤ k → length (pick {A = List ℕ} b (entryOf (l .reply .answer) ∷ []) [] ++ handed k (l .world)) ≤ suc k
+    by true h = omega arith
+    by false h = omega arith
 
 -- ---- what is kept
 
