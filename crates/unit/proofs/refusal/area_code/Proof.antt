@@ -1,21 +1,22 @@
 -- `unit::refusal::area_code` meets its contract, row by row.
 use borrow.Author.Needs.{needs}
 use Rattle.unit.proofs.refusal.area_code.Statement.{statement}
-use Rattle.ground.specs.Choose.{pick, firstOf}
+use Rattle.ground.specs.Choose.{firstOf}
+use Rattle.ground.specs.laws.Tests.{cases}
 use Rattle.unit.specs.Refusals.{areaRows}
 use Rattle.unit.proofs.refusal.area_code.Tie as tie
 
 returns : tie.Need-returns
-unfolding areaRows firstOf pick
-returns c = simp (← c .before .crosses .ensures, c .if1 .taken)
+unfolding areaRows firstOf
+returns c = search cases
 
 returns-2 : tie.Need-returns-2
-unfolding areaRows firstOf pick
-returns-2 c = simp (← c .before .before .before .crosses .ensures, c .before .before .if1 .left, ← c .before .overruns .ensures, c .if2 .taken)
+unfolding areaRows firstOf
+returns-2 c = search cases
 
 returns-3 : tie.Need-returns-3
-unfolding areaRows firstOf pick
-returns-3 c = simp (← c .before .before .before .crosses .ensures, c .before .before .if1 .left, ← c .before .overruns .ensures, c .if2 .left)
+unfolding areaRows firstOf
+returns-3 c = search cases
 
 pub area-code-spec : {M : Type 1} → statement M
 area-code-spec =
