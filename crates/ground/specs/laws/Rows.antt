@@ -3,18 +3,19 @@
 --   or-false, or-true     what an `or` of tests says of its two tests
 --   Gives, first-gives    a table gives a number: the rows before it do not apply, and its own does; 0 where no row applies
 --   Passed, first-zero    a table of numbers other than 0 gives 0 exactly where no row of it applies
+--   absent, never, first-at   a number that stands in no row is not given; one that stands in one row alone, exactly where that row applies and none before it
 --   first-then, first-stops, first-both   a table that is two tables, one after the other
 -- Not here: what a row and a table are, in specs/Choose; finding the branch that the code took, in Tests.
 -- Assumes nothing.
 use mathlib.Core.Path.{_≡_, refl, sym, _∙_}
-use mathlib.Core.Bool.{Bool, true, false, _&&_, _||_}
+use mathlib.Core.Bool.{Bool, true, false, not, _&&_, _||_}
 use mathlib.Core.List.{List, [], _∷_, _++_}
 use mathlib.Core.Logic.{_↔_, _⊎_, inl, inr}
 use Prim.Native.Nat.{ℕ, _<_}
 use native.Mathlib.Decide.{ℕ-discrete}
 use native.Mathlib.Omega.{arith}
-use lib.Dec.{ltb}
-use borrow.Author.Tests.{ltb-true}
+use lib.Dec.{eqb, ltb}
+use borrow.Author.Tests.{ltb-true, eqb-false, not-true}
 use Rattle.ground.specs.Choose.{pick, Row, firstOf}
 
 pub pick-true : {A : Type 0} (t : Bool) (a b : A) → t ≡ true → pick t a b ≡ a
@@ -98,6 +99,50 @@ zero (r ∷ rs) p = rw (p .0) (zero rs (p .1))
 -- a table gives 0 exactly where no row applies
 pub first-zero : (rs : List Row) → numbered rs ≡ true → (firstOf rs ≡ 0) ↔ Passed rs
 first-zero rs n = (passed rs n, zero rs)
+
+-- ---- a number that stands in one row alone
+
+-- k is not 0, and no row of the table has it: computed, whatever the tests are
+abbrev pub absent : ℕ → List Row → Bool
+absent k [] = ltb 0 k
+absent k (r ∷ rs) = not (eqb (r .number) k) && absent k rs
+
+-- what a row says of the number that stands in none
+other : (r : Row) (rs : List Row) (k : ℕ) → absent k (r ∷ rs) ≡ true → (r .number ≡ k → ⊥) × (absent k rs ≡ true)
+other r rs k n =
+    let p = and-true (not (eqb (r .number) k)) (absent k rs) n in
+    (eqb-false _ _ (not-true _ (p .0)), p .1)
+
+-- the table does not give it
+pub never : (rs : List Row) (k : ℕ) → absent k rs ≡ true → firstOf rs ≡ k → ⊥
+unfolding firstOf pick
+never [] k n e = omega (arith, ltb-true 0 k n)
+never (r ∷ rs) k n e = go (r .applies) refl (never rs k)
+  where
+    go : (t : Bool) → r .applies ≡ t → (absent k rs ≡ true → firstOf rs ≡ k → ⊥) → ⊥
+    go true a more = other r rs k n .0 (sym (rw a) ∙ e)
+    go false a more = more (other r rs k n .1) (sym (rw a) ∙ e)
+
+-- so the table gives it exactly where its row applies and none before it
+pub first-at : (rs : List Row) (r : Row) (ss : List Row) → absent (r .number) rs ≡ true → absent (r .number) ss ≡ true → (firstOf (rs ++ (r ∷ ss)) ≡ r .number) ↔ (Passed rs × (r .applies ≡ true))
+unfolding firstOf pick
+first-at rs r ss n m = (there rs n, back rs)
+  where
+    here : (t : Bool) → r .applies ≡ t → firstOf (r ∷ ss) ≡ r .number → r .applies ≡ true
+    here true a e = a
+    here false a e = absurd (never ss (r .number) m (sym (rw a) ∙ e))
+
+    there : (qs : List Row) → absent (r .number) qs ≡ true → firstOf (qs ++ (r ∷ ss)) ≡ r .number → Passed qs × (r .applies ≡ true)
+    there [] k e = (tt, here (r .applies) refl e)
+    there (q ∷ qs) k e = go (q .applies) refl (there qs)
+      where
+        go : (t : Bool) → q .applies ≡ t → (absent (r .number) qs ≡ true → firstOf (qs ++ (r ∷ ss)) ≡ r .number → Passed qs × (r .applies ≡ true)) → Passed (q ∷ qs) × (r .applies ≡ true)
+        go true a more = absurd (other q qs (r .number) k .0 (sym (rw a) ∙ e))
+        go false a more = let p = more (other q qs (r .number) k .1) (sym (rw a) ∙ e) in ((a, p .0), p .1)
+
+    back : (qs : List Row) → Passed qs × (r .applies ≡ true) → firstOf (qs ++ (r ∷ ss)) ≡ r .number
+    back [] h = rw (h .1)
+    back (q ∷ qs) h = rw (h .0 .0) (back qs (h .0 .1, h .1))
 
 -- ---- a table that is two tables
 
