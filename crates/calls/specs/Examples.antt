@@ -1,6 +1,7 @@
--- The settled examples of document 01 that are marked *, and values of the 1974 manual, stated of the definitions.
+-- The settled examples of document 01 that are marked *, values of the 1974 manual, and edges that a request names, stated of the definitions.
 --   Starred   the examples of document 01, in its order
 --   Manual    001: section 6 and appendix B, as docs/DECISIONS.md makes them
+--   Bases     document 02, K1: where the two numbers of a wrong base begin and end
 -- Each is computed: a unit is set up and started, calls are made, and what they leave is compared.
 -- Not here: that they hold, in laws/Examples; the examples that are run and not proved, in the programs.
 -- Assumes nothing.
@@ -140,3 +141,19 @@ pub record Manual : Type 0 where
   pub line-up : getD (withOCW 0o40000 (raised ∷ look ∷ []) .memory) 65 0 ≡ 0o144400
   pub line-up-ends : getD (withOCW 0o40000 (raised ∷ look ∷ look ∷ []) .memory) 65 0 ≡ 0o146400
   pub line-up-stays : getD (withOCW 0o40000 (raised ∷ look ∷ look ∷ look ∷ []) .memory) 65 0 ≡ 0o146400
+
+-- ---- document 02
+
+pub record Bases : Type 0 where
+  -- b 8, P 1: the last multiple of 64 in the memory, the last word, the word after it, the last multiple of 64 that a setting can have
+  pub last-taken : codeOf 8 1 32704 ≡ 0
+  pub last-word : codeOf 8 1 32767 ≡ 3
+  pub first-high : codeOf 8 1 32768 ≡ 11
+  pub last-high : codeOf 8 1 4294967232 ≡ 11
+  -- both faults give 3; a block size or a number of ports that is wrong too comes first
+  pub both-faults : codeOf 8 1 32769 ≡ 3
+  pub block-first : codeOf 7 1 32768 ≡ 1
+  pub ports-first : codeOf 8 0 32768 ≡ 2
+  -- 11 comes before 4: 121 blocks from 32832 on cross a multiple of 1024, as they do from 64 on
+  pub before-crossing : codeOf 8 121 32832 ≡ 11
+  pub crossing : codeOf 8 121 64 ≡ 4

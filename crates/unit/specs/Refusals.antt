@@ -1,6 +1,6 @@
--- The numbers a call may refuse with (document 01, the table of that name).
---   WORDS .. SHORT-LIST      the numbers and the limits, a name each
---   sizeRows, baseRows, areaRows   rows 1 to 5, for setup and, of a record's own setting, for row 6
+-- The numbers a call may refuse with (document 01, the table of that name; document 02, K1).
+--   WORDS .. TOO-HIGH        the numbers and the limits, a name each
+--   sizeRows, baseRows, areaRows   rows 1 to 5 and 11, for setup and, of a record's own setting, for row 6
 --   Given                    what a call is given: each argument where the call has one
 --   refusal                  the table: the first row that applies, and 0 where none does
 --   ofSetup .. ofSweep       what each kind of call is given
@@ -37,8 +37,8 @@ BAD-BLOCK = 1
 abbrev pub BAD-PORTS : ℕ
 BAD-PORTS = 2
 
-abbrev pub BAD-BASE : ℕ
-BAD-BASE = 3
+abbrev pub MISALIGNED : ℕ
+MISALIGNED = 3
 
 abbrev pub CROSSES : ℕ
 CROSSES = 4
@@ -61,6 +61,9 @@ TOO-MANY = 9
 abbrev pub SHORT-LIST : ℕ
 SHORT-LIST = 10
 
+abbrev pub TOO-HIGH : ℕ
+TOO-HIGH = 11
+
 -- ---- what each row asks
 
 -- b is not 8, 16 or 32
@@ -71,9 +74,13 @@ badBlock b = not (eqb b 8 || (eqb b 16 || eqb b 32))
 unfoldable pub badPorts : ℕ → Bool
 badPorts n = eqb n 0 || ltb MOST-PORTS n
 
--- base is not a multiple of 8b, or is above 32767
-unfoldable pub badBase : ℕ → ℕ → Bool
-badBase b a = not (eqb (a % (8 * b)) 0) || ltb 32767 a
+-- base is not a multiple of 8b
+unfoldable pub misaligned : ℕ → ℕ → Bool
+misaligned b a = not (eqb (a % (8 * b)) 0)
+
+-- base is above 32767
+unfoldable pub tooHigh : ℕ → Bool
+tooHigh a = ltb 32767 a
 
 -- floor(base / 128b) differs from floor((base + P·b − 1) / 128b)
 unfoldable pub crosses : ℕ → ℕ → ℕ → Bool
@@ -89,16 +96,16 @@ overruns b n a = ltb WORDS (a + n * b)
 unfoldable pub sizeRows : Setting → List Row
 sizeRows s = row BAD-BLOCK (badBlock (s .block)) ∷ row BAD-PORTS (badPorts (s .ports)) ∷ []
 
--- row 3: the base
+-- rows 3 and 11: the base
 unfoldable pub baseRows : Setting → List Row
-baseRows s = row BAD-BASE (badBase (s .block) (s .base)) ∷ []
+baseRows s = row MISALIGNED (misaligned (s .block) (s .base)) ∷ row TOO-HIGH (tooHigh (s .base)) ∷ []
 
 -- rows 4 and 5: the area
 unfoldable pub areaRows : Setting → List Row
 areaRows s =
     row CROSSES (crosses (s .block) (s .ports) (s .base)) ∷ row OVERRUNS (overruns (s .block) (s .ports) (s .base)) ∷ []
 
--- rows 1 to 5
+-- rows 1, 2, 3, 11, 4 and 5
 unfoldable pub settingRows : Setting → List Row
 settingRows s = sizeRows s ++ (baseRows s ++ areaRows s)
 
@@ -117,7 +124,7 @@ pub record Given : Type 0 where
   pub inspections : Option ℕ
   pub list : Option (List ℕ)
 
--- rows 1 to 5 of a setting that may be absent
+-- setup's rows, of a setting that may be absent
 unfoldable pub rowsOf : Option Setting → List Row
 rowsOf none = []
 rowsOf (some s) = settingRows s

@@ -26,7 +26,7 @@ pub record SizeFits (s : Setting) : Type 0 where
   pub some-port : 0 < s .ports
   pub few-ports : s .ports ≤ MOST-PORTS
 
--- row 3 does not: the base
+-- rows 3 and 11 do not: the base
 pub record BaseFits (s : Setting) : Type 0 where
   pub aligned : s .base % (8 * s .block) ≡ 0
   pub low : s .base ≤ 32767
@@ -36,7 +36,7 @@ pub record AreaFits (s : Setting) : Type 0 where
   pub one : s .base / (128 * s .block) ≡ (s .base + s .ports * s .block - 1) / (128 * s .block)
   pub inside : s .base + s .ports * s .block ≤ WORDS
 
--- a setting that setup takes: no row of 1 to 5 applies
+-- a setting that setup takes: no row of its table applies
 pub record Fits (s : Setting) : Type 0 where
   pub size : SizeFits s
   pub base : BaseFits s

@@ -1,9 +1,9 @@
-// The numbers a call may refuse with: the table of document 01, row by row, and what each kind of call asks for first.
+// The numbers a call may refuse with: the table of document 01 with K1's row, row by row, and what each kind of call asks for first.
 use crate::mux::Mux;
 use crate::mux::Setting;
 ghost use mathlib.Core.Path.{_≡_};
 ghost use Rattle.ground.specs.Choose.{firstOf};
-ghost use Rattle.unit.specs.Refusals.{badBlock, badPorts, badBase, crosses, overruns, sizeRows, baseRows, areaRows, refusal, ofSetup, ofUnit, ofPort, ofInspection, ofSweep, unsound};
+ghost use Rattle.unit.specs.Refusals.{badBlock, badPorts, misaligned, tooHigh, crosses, overruns, sizeRows, baseRows, areaRows, refusal, ofSetup, ofUnit, ofPort, ofInspection, ofSweep, unsound};
 ghost use Rattle.unit.specs.Sound.{SizeFits, BaseFits};
 
 // How many words of memory are lent, how many ports a unit may have, how many inspections a sweep may ask for.
@@ -18,7 +18,7 @@ pub const BAD_BLOCK: u8 = 1;
 
 pub const BAD_PORTS: u8 = 2;
 
-pub const BAD_BASE: u8 = 3;
+pub const MISALIGNED: u8 = 3;
 
 pub const CROSSES: u8 = 4;
 
@@ -33,6 +33,8 @@ pub const NO_PORT: u8 = 8;
 pub const TOO_MANY: u8 = 9;
 
 pub const SHORT_LIST: u8 = 10;
+
+pub const TOO_HIGH: u8 = 11;
 
 // Row 1: b is not 8, 16 or 32.
 fn bad_block(b: u32) -> bool
@@ -57,15 +59,19 @@ fn bad_ports(n: u32) -> bool
     MOST_PORTS < n
 }
 
-// Row 3: the base is not a multiple of 8b, or is above 32767.
-fn bad_base(s: Setting) -> bool
+// Row 3: the base is not a multiple of 8b.
+fn misaligned(s: Setting) -> bool
     requires { ⌜ SizeFits s ⌝ }
-    ensures { λ r. ⌜ r ≡ badBase (s .block) (s .base) ⌝ }
+    ensures { λ r. ⌜ r ≡ misaligned (s .block) (s .base) ⌝ }
 {
-    if s.base % (8 * s.block) != 0 {
-        return true;
-    }
-    32767 < s.base
+    s.base % (8 * s.block) != 0
+}
+
+// Row 11: the base is above 32767.
+fn too_high(a: u32) -> bool
+    ensures { λ r. ⌜ r ≡ tooHigh a ⌝ }
+{
+    32767 < a
 }
 
 // Row 4: the area crosses a multiple of 128b.
@@ -100,13 +106,16 @@ fn size_code(s: Setting) -> u8
     0
 }
 
-// Row 3: the base.
+// Rows 3 and 11: the base.
 fn base_code(s: Setting) -> u8
     requires { ⌜ SizeFits s ⌝ }
     ensures { λ r. ⌜ r ≡ firstOf (baseRows s) ⌝ }
 {
-    if bad_base(s) {
-        return BAD_BASE;
+    if misaligned(s) {
+        return MISALIGNED;
+    }
+    if too_high(s.base) {
+        return TOO_HIGH;
     }
     0
 }

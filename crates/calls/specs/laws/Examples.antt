@@ -1,6 +1,6 @@
 -- The worked examples hold: each is computed.
 --   everything        every definition that a step of the unit computes with, named once
---   starred, manual   the examples of document 01, and those of the 1974 manual
+--   starred, manual, bases   the examples of document 01, those of the 1974 manual, and those of document 02
 -- Not here: what the examples are, in specs/Examples.
 -- Assumes nothing.
 use mathlib.Core.Path.{refl}
@@ -17,7 +17,7 @@ use Rattle.interrupt.specs.Interrupt as Interrupt
 use Rattle.interrupt.specs.Interrupt.{busy, moreMarked, serviceMarked, statusAfter, raised, started, ticked, shown}
 use Rattle.unit.specs.Record.{portAt, blockAt, addressAt}
 use Rattle.unit.specs.Reply.{counts, guarded}
-use Rattle.unit.specs.Refusals.{badBlock, badPorts, badBase, crosses, overruns, sizeRows, baseRows, areaRows, settingRows, unsound, rowsOf, callRows, tableOf, refusal}
+use Rattle.unit.specs.Refusals.{badBlock, badPorts, misaligned, tooHigh, crosses, overruns, sizeRows, baseRows, areaRows, settingRows, unsound, rowsOf, callRows, tableOf, refusal}
 use Rattle.unit.specs.Setup.{setup}
 use Rattle.lines.specs.Lines.{signalled, line}
 use Rattle.processor.specs.Processor.{order}
@@ -28,11 +28,11 @@ use Rattle.scan.specs.Turn.{service, took, irqAfter, servedTurn, idleTurn, turn
 use Rattle.scan.specs.Scan.{nextPos, serviceTurn, scanned, inspection}
 use Rattle.calls.specs.Calls.{setUp, performed}
 use Rattle.calls.specs.Events.{result, counted}
-use Rattle.calls.specs.Examples.{turnsOf, Starred, Manual}
+use Rattle.calls.specs.Examples.{turnsOf, Starred, Manual, Bases}
 
 -- every definition that a step of the unit computes with: to unfold this is to unfold them all
 unfoldable pub everything : Unit {0}
-unfolding pick bit asked firstOf Machine.run Machine.total get put storedByte wordByte echoedByte atEnd halfAt byteAt storeByte wordIf byteIf isSpecial lengthOf spanOf cut speedOf busy moreMarked serviceMarked statusAfter raised started ticked shown Interrupt.unsound portAt blockAt addressAt counts guarded badBlock badPorts badBase crosses overruns sizeRows baseRows areaRows settingRows unsound rowsOf callRows tableOf refusal setup signalled line Processor.after order errorCode ascii replacedICW doneICW replacedPlan donePlan storedPlan inputPlan carried inputService outDone isAuto autoPlan controlPlan singlePlan outputPlan differs statusBits becomesChanged writtenOCW outputService service took irqAfter servedTurn idleTurn turn nextPos serviceTurn scanned inspection setUp performed result counted turnsOf
+unfolding pick bit asked firstOf Machine.run Machine.total get put storedByte wordByte echoedByte atEnd halfAt byteAt storeByte wordIf byteIf isSpecial lengthOf spanOf cut speedOf busy moreMarked serviceMarked statusAfter raised started ticked shown Interrupt.unsound portAt blockAt addressAt counts guarded badBlock badPorts misaligned tooHigh crosses overruns sizeRows baseRows areaRows settingRows unsound rowsOf callRows tableOf refusal setup signalled line Processor.after order errorCode ascii replacedICW doneICW replacedPlan donePlan storedPlan inputPlan carried inputService outDone isAuto autoPlan controlPlan singlePlan outputPlan differs statusBits becomesChanged writtenOCW outputService service took irqAfter servedTurn idleTurn turn nextPos serviceTurn scanned inspection setUp performed result counted turnsOf
 everything = tt
 
 pub starred : Starred
@@ -81,4 +81,19 @@ manual =
       line-up = refl;
       line-up-ends = refl;
       line-up-stays = refl;
+    }
+
+pub bases : Bases
+unfolding everything
+bases =
+    record {
+      last-taken = refl;
+      last-word = refl;
+      first-high = refl;
+      last-high = refl;
+      both-faults = refl;
+      block-first = refl;
+      ports-first = refl;
+      before-crossing = refl;
+      crossing = refl;
     }

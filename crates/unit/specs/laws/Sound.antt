@@ -26,7 +26,7 @@ use Rattle.interrupt.specs.laws.Interrupt as Irq
 use Rattle.unit.specs.declared.mux.Setting.{Setting}
 use Rattle.unit.specs.declared.mux.Mux.{Mux}
 use Rattle.unit.specs.Record.{fresh, noMux, blockAt}
-use Rattle.unit.specs.Refusals.{WORDS, MOST-PORTS, MOST-INSPECTIONS, badBlock, badPorts, badBase, crosses, overruns, sizeRows, baseRows, areaRows, settingRows, unsound, rowsOf, callRows, tableOf, refusal, ofSetup, ofUnit, ofPort, ofInspection, ofSweep}
+use Rattle.unit.specs.Refusals.{WORDS, MOST-PORTS, MOST-INSPECTIONS, badBlock, badPorts, misaligned, tooHigh, crosses, overruns, sizeRows, baseRows, areaRows, settingRows, unsound, rowsOf, callRows, tableOf, refusal, ofSetup, ofUnit, ofPort, ofInspection, ofSweep}
 use Rattle.unit.specs.Sound.{IsBlock, eight, sixteen, thirty-two, SizeFits, BaseFits, AreaFits, Fits, Sound}
 use Rattle.unit.specs.laws.Refusals.{setup-refusal}
 
@@ -61,15 +61,15 @@ good-ports n = (to, λ h. both-false (eqb n 0) (ltb MOST-PORTS n) (ne-eqb n 0 (o
         let z : n ≡ 0 → ⊥ = eqb-false n 0 (p .0) in
         (omega arith, ltb-false 128 n (p .1))
 
--- row 3 does not apply to a base that is a multiple of 8b and at most 32767, and to no other
-pub good-base : (b a : ℕ) → (badBase b a ≡ false) ↔ ((a % (8 * b) ≡ 0) × (a ≤ 32767))
-unfolding badBase
-good-base b a = (to, λ h. both-false (not (eqb (a % (8 * b)) 0)) (ltb 32767 a) (ap not (eq-eqb _ _ (h .0))) (le-ltb 32767 a (h .1)))
-  where
-    to : (not (eqb (a % (8 * b)) 0) || ltb 32767 a) ≡ false → (a % (8 * b) ≡ 0) × (a ≤ 32767)
-    to e =
-        let p = or-false (not (eqb (a % (8 * b)) 0)) (ltb 32767 a) e in
-        (eqb-true _ _ (not-false _ (p .0)), ltb-false 32767 a (p .1))
+-- row 3 does not apply to a base that is a multiple of 8b, and to no other
+pub good-base : (b a : ℕ) → (misaligned b a ≡ false) ↔ (a % (8 * b) ≡ 0)
+unfolding misaligned
+good-base b a = (λ e. eqb-true _ _ (not-false _ e), λ h. ap not (eq-eqb _ _ h))
+
+-- row 11 does not apply to a base of at most 32767, and to no other
+pub low-base : (a : ℕ) → (tooHigh a ≡ false) ↔ (a ≤ 32767)
+unfolding tooHigh
+low-base a = (λ e. ltb-false 32767 a e, λ h. le-ltb 32767 a h)
 
 -- row 4 does not apply where the area crosses no multiple of 128b, and nowhere else
 pub good-area : (b n a : ℕ) → (crosses b n a ≡ false) ↔ (a / (128 * b) ≡ (a + n * b - 1) / (128 * b))
@@ -97,8 +97,8 @@ pub base-fits : (s : Setting) → (firstOf (baseRows s) ≡ 0) ↔ BaseFits s
 unfolding baseRows
 base-fits s =
     let z = first-zero (baseRows s) refl in (
-      λ e. let a = good-base _ _ .0 (z .0 e .0) in record { aligned = a .0; low = a .1 },
-      λ h. z .1 (good-base _ _ .1 (h .aligned, h .low), tt),
+      λ e. let p = z .0 e in record { aligned = good-base _ _ .0 (p .0); low = low-base _ .0 (p .1 .0) },
+      λ h. z .1 (good-base _ _ .1 (h .aligned), (low-base _ .1 (h .low), tt)),
     )
 
 pub area-fits : (s : Setting) → (firstOf (areaRows s) ≡ 0) ↔ AreaFits s
@@ -109,7 +109,7 @@ area-fits s =
       λ h. z .1 (good-area _ _ _ .1 (h .one), (good-end _ _ _ .1 (h .inside), tt)),
     )
 
--- no row of 1 to 5 applies exactly where the setting fits
+-- no row of setup's table applies exactly where the setting fits
 pub fits-iff : (s : Setting) → (firstOf (settingRows s) ≡ 0) ↔ Fits s
 unfolding settingRows sizeRows baseRows
 fits-iff s =
