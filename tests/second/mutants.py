@@ -17,6 +17,14 @@ import sessions
 
 SOURCE = pathlib.Path(__file__).with_name('mux2.py').read_text()
 
+# The line of mux2.py that holds each row of setup's table, by its number.
+ROWS = {int(line.split(':')[0]): line for line in SOURCE.splitlines(keepends=True)
+        if line.split(':')[0].strip().isdigit() and ': lambda b, ports, base: ' in line}
+
+# Row 11 where row 3, or 2 and 3, do not apply, so that it may stand above them and err in one pair of faults alone.
+NOT_3 = "    11: lambda b, ports, base: b and base % (8 * b) == 0 and base > 32767,\n"
+NOT_2_3 = NOT_3.replace("b and", "b and 0 < ports <= 128 and")
+
 MUTANTS = [
     # Document 01, errors seen.
     ('seen: special stored and reported as well',
@@ -40,12 +48,32 @@ MUTANTS = [
 
     # Setup and refusals.
     ('P checked before b',
-     "        if b not in (8, 16, 32):\n            return 1\n"
-     "        if ports == 0 or ports > 128:\n            return 2\n",
-     "        if ports == 0 or ports > 128:\n            return 2\n"
-     "        if b not in (8, 16, 32):\n            return 1\n"),
-    ('128 ports refused', "ports > 128:", "ports > 127:"),
+     ROWS[1] + ROWS[2], ROWS[2] + ROWS[1]),
+    ('128 ports refused', "ports > 128,", "ports > 127,"),
     ('base a multiple of b only', "base % (8 * b) != 0", "base % b != 0"),
+    ('11 asked before 3', ROWS[3] + ROWS[11], ROWS[11] + ROWS[3]),
+    ('11 asked before 2', ROWS[2] + ROWS[3] + ROWS[11], ROWS[11] + ROWS[2] + ROWS[3]),
+    ('11 asked before 2, after 3', ROWS[2] + ROWS[3] + ROWS[11], NOT_3 + ROWS[2] + ROWS[3]),
+    ('11 asked before 1, after 2 and 3',
+     ROWS[1] + ROWS[2] + ROWS[3] + ROWS[11], NOT_2_3 + ROWS[1] + ROWS[2] + ROWS[3]),
+    ('11 asked after 4', ROWS[11] + ROWS[4], ROWS[4] + ROWS[11]),
+    ('11 asked after 5', ROWS[11] + ROWS[4] + ROWS[5], ROWS[4] + ROWS[5] + ROWS[11]),
+    ('3 for both faults of a base', "base % (8 * b) != 0,", "base % (8 * b) != 0 or base > 32767,"),
+    ('11 for both faults of a base', ROWS[3] + ROWS[11],
+     "    11: lambda b, ports, base: base % (8 * b) != 0 or base > 32767,\n    3: lambda b, ports, base: False,\n"),
+    ('11 only above 32768', "base: base > 32767", "base: base > 32768"),
+    ('11 from the last base on', "base: base > 32767", "base: base >= 32768 - 8 * b"),
+    ('11 for a base cut to 16 bits', "base: base > 32767", "base: base % 65536 > 32767"),
+    ('11 for a base taken with a sign', "base: base > 32767", "base: 32767 < base < 2147483648"),
+    ('11 only in blocks of 8', "base: base > 32767", "base: base > 32767 and b == 8"),
+    ('11 not in blocks of 32', "base: base > 32767", "base: base > 32767 and b != 32"),
+    # Without row 11 alone a high base is still unsound, by row 5: so the number is forgotten and not the row.
+    ('soundness forgets row 11',
+     "        if code:\n            self.hit(f'unsound: setup",
+     "        if code and code != 11:\n            self.hit(f'unsound: setup"),
+    ('soundness forgets row 11 far from the edge',
+     "        if code:\n            self.hit(f'unsound: setup",
+     "        if code and not (code == 11 and r.base >= 65536):\n            self.hit(f'unsound: setup"),
     ('area may cross', "(base + ports * b - 1) // (128 * b)", "base // (128 * b)"),
     ('area may not reach its end', "(base + ports * b - 1) // (128 * b)",
      "(base + ports * b) // (128 * b)"),

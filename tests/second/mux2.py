@@ -1,7 +1,7 @@
 """A second EDS-8, for comparison with the proved one.
 
-Written from document 01, the 1974 manual (001) and the readings of
-docs/DECISIONS.md, without sight of the definitions or the code. It takes
+Written from document 01, request K1 of document 02, the 1974 manual (001) and
+the readings of docs/DECISIONS.md, without sight of the definitions or the code. It takes
 another road than the proved program: a word is a list of sixteen 0s and 1s indexed by the
 manual's bit numbers, a port is an immutable object, and memory is a bytearray
 in which a byte pointer is simply an index. Each branch of document 01 has a
@@ -72,7 +72,20 @@ class Memory:
         self.halves[pointer] = byte
 
 
-SETUP_CALLS = {'setup': (1, 2, 3, 4, 5)}
+BLOCKS = (8, 16, 32)            # the sizes of a control block, in words
+
+# The rows of document 01's table that setup asks, in their order (02, K1: 11 right after 3):
+# each number, and when it is given if no row above it was. A sound record (6) passes the same rows.
+SETUP_ROWS = {
+    1: lambda b, ports, base: b not in BLOCKS,
+    2: lambda b, ports, base: ports == 0 or ports > 128,
+    3: lambda b, ports, base: base % (8 * b) != 0,
+    11: lambda b, ports, base: base > 32767,
+    4: lambda b, ports, base: base // (128 * b) != (base + ports * b - 1) // (128 * b),
+    5: lambda b, ports, base: base + ports * b > 32768,
+}
+
+SETUP_CALLS = {'setup': tuple(SETUP_ROWS)}
 PLAIN_CALLS = ('reset', 'iopls', 'start', 'doc', 'dob', 'dia', 'dias', 'tick')
 LINE_CALLS = ('arrival', 'transmitted', 'device_status')
 REFUSALS = {**SETUP_CALLS, **{call: (6,) for call in PLAIN_CALLS},
@@ -80,14 +93,17 @@ REFUSALS = {**SETUP_CALLS, **{call: (6,) for call in PLAIN_CALLS},
             'inspect': (6, 7), 'sweep': (6, 7, 9, 10)}
 
 # Refusal 5 can never be given: 32768 is a multiple of 128b for each b, so an
-# area that passes it has crossed such a multiple and was refused with 4.
-UNREACHABLE = {'setup refused 5'}
+# area that starts below it (else 11) and passes it has crossed such a multiple
+# and was refused with 4.
+UNREACHABLE = {'setup refused 5', 'unsound: setup gives 5'}
 
 BRANCHES = (
     [f'{call} refused {code}' for call, codes in REFUSALS.items() for code in codes]
     + [f'{call} accepted' for call in REFUSALS]
-    + [f'unsound: setup gives {code}' for code in (1, 2, 3, 4)]
-    + ['unsound: position', 'sweep refused 9 before 10',
+    + [f'unsound: setup gives {code}' for code in SETUP_ROWS]
+    + [f'setup refused 11, b {b}: {where}' for b in BLOCKS for where in ('at 32768', 'far from it')]
+    + [f'setup refused {code} before 11' for code in (1, 2, 3)]
+    + ['setup refused 11 before 4', 'unsound: position', 'sweep refused 9 before 10',
        'arrival at a free port', 'arrival replaces a character', 'arrival replaces a marked one',
        'arrival is cut to 5', 'arrival is cut to 6', 'arrival is cut to 7', 'arrival of 8',
        'arrival in a stopped unit', 'transmitter becomes empty', 'transmitter already empty',
@@ -145,16 +161,9 @@ class Mux2:
     # Refusals, in the order of the table.
 
     def setup_refusal(self, b, ports, base):
-        if b not in (8, 16, 32):
-            return 1
-        if ports == 0 or ports > 128:
-            return 2
-        if base % (8 * b) != 0 or base > 32767:
-            return 3
-        if base // (128 * b) != (base + ports * b - 1) // (128 * b):
-            return 4
-        if base + ports * b > 32768:
-            return 5
+        for number, applies in SETUP_ROWS.items():
+            if applies(b, ports, base):
+                return number
         return 0
 
     def unsound(self):
@@ -193,11 +202,25 @@ class Mux2:
     def setup(self, b, ports, base):
         code = self.setup_refusal(b, ports, base)
         self.hit(f'setup refused {code}' if code else 'setup accepted')
+        if base > 32767:
+            self.note_high_base(code, b, ports, base)
         made = Record()
         if code == 0:
             made.block, made.ports, made.base = b, ports, base
             made.port = [FRESH_PORT] * ARRAY
         return code, made
+
+    def note_high_base(self, code, b, ports, base):
+        """Counts what stood beside a base that is too high; changes nothing."""
+        if code in (1, 2, 3):
+            self.hit(f'setup refused {code} before 11')
+        elif code == 11 and b in BLOCKS:
+            if base == 32768:
+                self.hit(f'setup refused 11, b {b}: at 32768')
+            elif base >= 2147483648:
+                self.hit(f'setup refused 11, b {b}: far from it')
+            if SETUP_ROWS[4](b, ports, base):
+                self.hit('setup refused 11 before 4')
 
     # What the lines do.
 

@@ -425,7 +425,74 @@ def speeds_session():
     return author, reached
 
 
+def high_bases(b):
+    """Bases that setup refuses with 11: at the edge, past each width that might cut them short, far away."""
+    eight, area, top = 8 * b, 128 * b, MANY + 1
+    return (32768, 32768 + eight, 32768 + area - eight, 65536 - eight, 65536, 65536 + eight,
+            2147483648 - eight, 2147483648, 2147483648 + eight, top - area, top - eight)
+
+
+def bad_bases(author, b):
+    """Setups with a base above 32767, alone and beside each other fault; the unit stays as it is."""
+    eight = 8 * b
+    for base in (32767, 32769):
+        author.do(drive.SETUP, b, 1, base, 0)
+    for base in high_bases(b):
+        for ports in (1, 8, 9, 128):                    # 9 and 128 may cross as well: 11 before 4
+            author.do(drive.SETUP, b, ports, base, 0)
+        for wrong in (1, b, 4 * b, eight - 1):          # 3 before 11, with 4 or without
+            author.do(drive.SETUP, b, 1, base + wrong, 0)
+            author.do(drive.SETUP, b, 128, base + wrong, 0)
+        for ports in (0, 129, MANY):                    # 2 before 11, with 3 or without
+            author.do(drive.SETUP, b, ports, base, 0)
+            author.do(drive.SETUP, b, ports, base + 1, 0)
+        for wrong in (0, 1, 7, b + 1, b // 2 * 3, 64, MANY):    # 1 before 11, with 2 or 3 or without
+            author.do(drive.SETUP, wrong, 1, base, 0)
+            author.do(drive.SETUP, wrong, 0, base, 0)
+            author.do(drive.SETUP, wrong, 1, base + 1, 0)
+
+
+def high_record(author, base):
+    """A unit with work waiting whose base is poked too high: every call is refused with 6 and changes nothing."""
+    good = author.unit.base
+    author.do(drive.ARRIVAL, 0, 65, 0, 0)
+    author.do(drive.TICK)
+    author.do(drive.POKE, 2, base)
+    for op in (drive.DIA, drive.START, drive.DIAS, drive.TICK, drive.IOPLS, drive.DOB, drive.DOC, drive.RESET):
+        author.do(op)
+    author.do(drive.ARRIVAL, 0, 66, 0, 0)
+    author.do(drive.TRANSMITTED, 0)
+    author.do(drive.DEVICE_STATUS, 0, 1)
+    author.inspect()
+    author.do(drive.SWEEP, 1, author.look())
+    author.do(drive.POKE, 2, good)
+    author.do(drive.DIAS)
+    author.inspect()
+
+
+def bases_session():
+    """The session of refusal 11: a base above 32767 by itself, beside each other fault, and in a poked record."""
+    author = Author(SEED, 0)
+    author.kind = 'bases'
+    for b in mux2.BLOCKS:
+        author.do(drive.SETUP, b, 1, 32768 - 8 * b, 0)  # the last base that is taken
+        author.do(drive.IOPLS)
+        author.do(drive.DOC)
+        bad_bases(author, b)
+        author.do(drive.PLACES, 1, b)
+        for base in high_bases(b):
+            high_record(author, base)
+        author.do(drive.SETUP, b, 1, 32768, 1)          # the record of zeros becomes the unit
+        author.do(drive.DIA)
+        author.do(drive.SETUP, b, 8, 32768 - 8 * b, 0)
+        author.do(drive.SETUP, b, 9, 32768 - 8 * b, 0)
+    reached = author.mux.reached
+    author.do(drive.END)
+    return author, reached
+
+
 def fixed_set(seed=SEED, sessions=SESSIONS):
     yield speeds_session()
+    yield bases_session()
     for number in range(sessions):
         yield write_session(seed, number)

@@ -1,17 +1,19 @@
 """Checks the second program by document 01's settled examples and the manual's own values.
 
 It also checks that the digests are those of FORMAT.md, that a written session
-can be read and driven again, and that compare.py finds a changed line. Exit
-status 0 only where every check passes.
+can be read and driven again, that compare.py finds a changed line and that
+settings2.py finds a wrong answer. Exit status 0 only where every check passes.
 """
 
 import sys
 import traceback
+from random import Random
 
 import compare
 import drive
 import mux2
 import sessions
+import settings2
 from mux2 import IDLE, INPUT, NOTHING, OUTPUT, Answer, Mux2
 
 
@@ -144,6 +146,160 @@ def test_speeds():
     assert vars(mux.record) == before and not any(mux.memory.halves)
     assert all(mux.reached[f'speed {code}'] == 32 for code in rows)
     assert mux.speed(0o360) == 110                      # section 6's port control word
+
+
+# Document 02, K1.
+
+def test_high_base():
+    for b, last, top in ((8, 32704, 4294967232), (16, 32640, 4294967168), (32, 32512, 4294967040)):
+        assert setup_code(b, 1, last) == 0 and setup_code(b, 8, last) == 0
+        assert setup_code(b, 1, 32767) == 3 and setup_code(b, 1, 32768) == 11
+        assert setup_code(b, 1, 32768 + 8 * b) == 11 and setup_code(b, 1, 65536) == 11
+        assert setup_code(b, 1, top) == 11 and setup_code(b, 1, 4294967295) == 3
+    assert setup_code(16, 1, 4294967232) == setup_code(32, 1, 4294967232) == 3
+
+
+def test_order_of_11():
+    assert list(mux2.SETUP_ROWS) == [1, 2, 3, 11, 4, 5]
+    for b in mux2.BLOCKS:
+        crosses = 32768 + 128 * b - 8 * b               # with 9 ports; above 32767, so past the end (5) as well
+        for base in (32768, crosses):
+            assert setup_code(b - 1, 1, base) == setup_code(0, 0, base + 1) == 1
+            assert setup_code(b, 0, base) == setup_code(b, 129, base) == setup_code(b, 0, base + 1) == 2
+            assert setup_code(b, 1, base + 1) == setup_code(b, 128, base + 4 * b) == 3
+        assert setup_code(b, 9, crosses - 32768) == 4 and setup_code(b, 9, crosses) == 11
+        assert setup_code(b, 128, 32768) == setup_code(b, 128, crosses) == 11
+
+
+def test_high_base_is_unsound():
+    for b, base in ((8, 32768), (16, 65536), (32, 4294967040), (8, 32769), (32, 4294967295)):
+        mux = unit(b, 8, 0)
+        mux.record.base, mux.record.status = base, 5
+        before = {**vars(mux.record), 'port': list(mux.record.port)}
+        assert mux.arrival(0, 65, 0, 0) == mux.transmitted(9) == mux.device_status(0, 1) == 6
+        assert mux.reset() == mux.iopls() == mux.start() == mux.doc() == mux.dob() == mux.tick() == 6
+        assert mux.dia() == mux.dias() == (6, 0) and mux.sweep(0) == (6, 0, 0)
+        assert mux.inspect() == (6, Answer(NOTHING, 0, 0, 0, 0)) and vars(mux.record) == before
+        assert mux.reached[f'unsound: setup gives {3 if base % 2 else 11}'] == 13
+
+
+class AsItWas(Mux2):
+    """Setup's rule before K1, for one comparison alone: 3 stood for both faults of a base."""
+
+    def setup_refusal(self, b, ports, base):
+        if b not in (8, 16, 32):
+            return 1
+        if ports == 0 or ports > 128:
+            return 2
+        if base % (8 * b) != 0 or base > 32767:
+            return 3
+        if base // (128 * b) != (base + ports * b - 1) // (128 * b):
+            return 4
+        if base + ports * b > 32768:
+            return 5
+        return 0
+
+
+def settings():
+    """A few thousand settings: the edges with each other, then random ones of every size."""
+    for b in (0, 7, 8, 9, 16, 24, 32, 33, 64, 4294967295):
+        for ports in (0, 1, 8, 9, 127, 128, 129, 4294967295):
+            for edge in (0, 8 * b, 128 * b, 32768, 65536, 2147483648, 4294967296):
+                for base in (edge - 8 * b, edge - 1, edge, edge + 1, edge + 4 * b, edge + 8 * b):
+                    if 0 <= base < 4294967296:
+                        yield b, ports, base
+    random = Random(1974).random
+    for _ in range(4000):
+        b = (8, 16, 32, int(random() * 70))[int(random() * 4)]
+        most = (32768, 65536, 4294967296)[int(random() * 3)]
+        step = (1, b, 8 * b, 8 * b, 128 * b)[int(random() * 5)] or 1
+        yield b, int(random() * 131), int(random() * (most / step)) * step
+
+
+def test_only_3_becomes_11():
+    counts = {}
+    for b, ports, base in settings():
+        old, old_record = AsItWas().setup(b, ports, base)
+        new, record = Mux2().setup(b, ports, base)
+        high = b in (8, 16, 32) and 1 <= ports <= 128 and base > 32767 and base % (8 * b) == 0
+        assert (old, new) == (3, 11) if high else old == new
+        assert vars(record) == vars(old_record)
+        counts[old, new] = counts.get((old, new), 0) + 1
+        poked = AsItWas(), Mux2()
+        for mux in poked:
+            mux.record.block, mux.record.ports, mux.record.base = b, ports, base
+        assert [mux.dia() for mux in poked] == [(6, 0) if new else (0, 0)] * 2
+    assert set(counts) == {(0, 0), (1, 1), (2, 2), (3, 3), (3, 11), (4, 4)}
+    assert min(counts.values()) > 100 and sum(counts.values()) > 5000
+
+
+# The caretakers' program.
+
+def test_settings_answers():
+    please = ['please type three numbers: block size, ports, base']
+    for typed in ('8 1 64', ' 008  1 0064 ', '32 120 256', '8 8 32704', '0' * 9999 + '8 1 0'):
+        assert settings2.answer(typed) == ['accepted']
+    for typed in ('', ' ', '8 1', '8 1 64 0', '8\t1 64', '8 1 64\r', '8 1 +64', '8 1 4294967296', '8 1 \u0668',
+                  '8 1 ' + '9' * 9999, '18446744073709551624 1 64'):
+        assert settings2.answer(typed) == please
+    for typed, code, advice in (
+            ('7 0 0', 1, '32 1 0'), ('7 200 4294967295', 1, '32 128 28672'), ('8 0 64', 2, '8 1 64'),
+            ('8 129 64', 2, '8 128 0'), ('8 8 32', 3, '8 8 0'), ('8 1 32767', 3, '8 1 32704'),
+            ('8 1 32768', 11, '8 1 32704'), ('16 8 4294967168', 11, '16 8 32640'), ('8 9 32768', 11, '8 9 31744'),
+            ('32 33 15360', 4, '32 33 12288'), ('32 121 256', 4, '32 121 0')):
+        assert settings2.answer(typed) == [f'refused, {code}:', f'type instead: {advice}']
+
+
+def test_settings_advice():
+    for b in mux2.BLOCKS:
+        for ports in (1, 8, 9, 127, 128):
+            for base in settings2.edges(b):
+                allowed = range(min(base, 32767), -1, -1)
+                eighth = next(a for a in allowed if a % (8 * b) == 0)
+                whole = next(a for a in allowed if a % (128 * b) == 0)
+                wanted = [a for a in (base, eighth, whole) if setup_code(b, ports, a) == 0]
+                assert settings2.mended_base(b, ports, base)[0] == wanted[0]
+
+
+def printed(text):
+    """What a right program prints for a typed text."""
+    return [line + ' a sentence: with a colon' if line.startswith('refused') else line
+            for typed in text.split('\n')[:-1] for line in settings2.answer(typed)]
+
+
+def test_settings_check():
+    text = settings2.fixed_text()
+    right = printed(text)
+
+    def agrees(lines, end='\n'):
+        return settings2.check(text, '\n'.join(lines) + end)[0]
+
+    def wrong(old, new, lines=1):
+        at = next(number for number, line in enumerate(right) if line.startswith(old))
+        return right[:at] + new + right[at + lines:]
+
+    assert 2500 < text.count('\n') < 3500 and agrees(right)
+    advice = next(line for line in right if line.startswith('type instead: 8 '))
+    for lines in (wrong('refused, 11:', ['refused, 3: a base']), wrong('refused, 3:', ['refused, 11: a base']),
+                  wrong('refused, 4:', ['refused, 5: an area']), wrong('refused, 1:', ['refused, 1']),
+                  wrong('refused, 2:', []), wrong('refused, 2:', ['refused, 2: ports'] * 2),
+                  wrong(advice, ['type instead: 8 1 32767']), wrong(advice, ['type instead: 16 1 0']),
+                  wrong(advice, [advice.replace('8', '08', 1)]), wrong(advice, []), wrong(advice, [advice] * 2),
+                  wrong('accepted', ['please']), wrong('accepted', []), wrong('accepted', ['accepted', advice]),
+                  wrong('please', ['accepted']), wrong('please', []), wrong('please', [settings2.PLEASE + ' ']),
+                  right[:-1], right + ['accepted'], right + printed('8 1 65\n'), right + [''], right[1:], []):
+        assert not agrees(lines)
+    assert not agrees(right, end='') and not agrees(right, end='\n\n')
+    assert 'told to type with 3' in settings2.check(text, '\n'.join(wrong(advice, ['type instead: 8 1 1'])))[1]
+
+
+def test_settings_kinds():
+    typed = settings2.fixed_text().split('\n')[:-1]
+    kinds = {line: settings2.answer_and_kinds(line)[1] for line in typed}
+    for missing in settings2.KINDS:
+        text = ''.join(line + '\n' for line in typed if missing not in kinds[line])
+        agrees, said = settings2.check(text, ''.join(line + '\n' for line in printed(text)))
+        assert agrees == (missing == 'refused, 5') and (f'never reached: {missing}' in said) != agrees
 
 
 # Errors that document 01 has seen.
@@ -318,7 +474,7 @@ def test_orders_keep_the_format():
             13: (32760,), 14: (number, 32760), 20: (39999, word), 21: (2147483646,), 22: (40000,),
             23: (4200, word), 24: (7, number), 25: (127, 8, 255), 26: (255,)}
     written = [sessions.write_session(7, number)[0] for number in range(len(sessions.KINDS))]
-    for author in written + [sessions.speeds_session()[0]]:
+    for author in written + [sessions.speeds_session()[0], sessions.bases_session()[0]]:
         for op, *rest in author.orders:
             limits = most.get(op, ())
             assert op in drive.NAMES and len(rest) == len(limits)
