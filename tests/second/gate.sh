@@ -1,10 +1,11 @@
 #!/bin/sh
-# The fixed sessions of the gate: the second program's own checks, the proved library against the second program, and
-# wrong second programs that the sessions must tell apart. One line for each, and how many passed.
+# The fixed sessions of the gate: the second program's own checks, the proved library against the second program, wrong
+# second programs that the sessions must tell apart, and the caretakers' program against the second program's setup. One line
+# for each, and how many passed.
 #
-#   tests/second/gate.sh [PROGRAM]      PROGRAM is the driver that `rt check compared` builds (default: target/bin/compared)
+#   tests/second/gate.sh [FOLDER]      FOLDER has the programs `compared` and `settings`, as `rt check` builds them (default: target/bin)
 here=$(cd "$(dirname "$0")" && pwd)
-program=${1:-$here/../../target/bin/compared}
+built=${1:-$here/../../target/bin}
 room=$(mktemp -d) || exit 2
 trap 'rm -rf "$room"' EXIT
 passed=0 failed=0
@@ -22,14 +23,18 @@ step() {
     echo "$name: $verdict"
 }
 
-drive() {
-    sh "$here/../run.sh" "$program" <"$room/text" >"$room/got" && echo "$(wc -l <"$room/got") lines printed"
+# Runs a program on a text, both named; what it prints goes to a third file.
+play() {
+    sh "$here/../run.sh" "$built/$1" <"$room/$2" >"$room/$3" && echo "$(wc -l <"$room/$3") lines printed"
 }
 
 step 'second program by itself' python3 "$here/test_second.py"
 step 'fixed sessions written' python3 "$here/run_second.py" --text "$room/text" --expected "$room/expected"
-step 'proved library plays them' drive
+step 'proved library plays them' play compared text got
 step 'proved library agrees' python3 "$here/compare.py" "$room/text" "$room/expected" "$room/got"
 step 'wrong programs told apart' python3 "$here/mutants.py" --quiet
+step 'settings written' python3 "$here/settings2.py" --write "$room/settings"
+step 'caretakers program reads them' play settings settings told
+step 'caretakers program agrees' python3 "$here/settings2.py" --check "$room/settings" "$room/told"
 echo "$passed passed, $failed failed"
 [ "$failed" -eq 0 ]

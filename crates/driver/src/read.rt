@@ -22,7 +22,7 @@ pub fn blank() -> Line
 }
 
 // Whether the byte is a digit.
-fn is_digit(b: u8) -> bool
+pub fn is_digit(b: u8) -> bool
     ensures { λ r. ⌜ r ≡ isDigit b ⌝ }
 {
     if 57 < b {

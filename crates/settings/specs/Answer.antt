@@ -1,0 +1,39 @@
+-- What a caretaker is answered.
+--   answerTo         the answer to a line
+--   taken            one byte of what is typed: at the end of a line it is answered, and the next begins
+--   readOn, shut, Turned   what is kept between two reads: some bytes were taken, or there is no more to read
+-- Not here: the sentences, which the stored output holds; what follows, in laws/.
+-- Assumes nothing.
+use mathlib.Core.Path.{_≡_}
+use mathlib.Core.Bool.{false}
+use mathlib.Core.List.{List, foldl}
+use Prim.Native.Nat.{ℕ}
+use lib.Dec.{eqb}
+use Rattle.ground.specs.Choose.{pick}
+use Rattle.unit.specs.Refusals.{refusal, ofSetup}
+use Rattle.settings.specs.declared.typed.Line.{Line}
+use Rattle.settings.specs.declared.say.Answer.{Answer}
+use Rattle.settings.specs.declared.Reader.{Reader}
+use Rattle.settings.specs.Typed.{blank, typed, whole, settingOf}
+use Rattle.settings.specs.Advice.{advised}
+
+-- whether the line was three numbers; then setup's number for them, and what to type instead
+abbrev pub answerTo : Line → Answer
+answerTo t = record { whole = whole t; code = refusal (ofSetup (settingOf t)); instead = advised (settingOf t) }
+
+-- the line after one byte of what is typed
+unfoldable pub taken : Line → ℕ → Line
+taken t b = pick (eqb b 10) blank (typed t b)
+
+-- what is kept after some bytes
+abbrev pub readOn : Reader → List ℕ → Reader
+readOn r text = record { going = r .going; line = foldl taken (r .line) text }
+
+-- and where there is no more to read
+abbrev pub shut : Reader → Reader
+shut r = record { going = false; line = r .line }
+
+-- one read from outside: some bytes were taken, or there is no more to read
+pub data Turned (r q : Reader) : Type 0 where
+  read : (text : List ℕ) → q ≡ readOn r text → Turned r q
+  ended : q ≡ shut r → Turned r q

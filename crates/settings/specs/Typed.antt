@@ -1,0 +1,66 @@
+-- The line that a caretaker types: three numbers with spaces between them, read byte by byte.
+--   blank                 a line of which nothing is read yet
+--   begun, extended       a number begins, or has one more digit
+--   digitTyped, spaced    a digit, and any other byte
+--   typed                 the line with one more byte
+--   whole, settingOf      the line is three numbers and nothing else; the setting that it asks for
+-- Not here: a digit, in Text of the crate driver; what setup says of the setting, in Answer.
+-- Assumes nothing.
+use mathlib.Core.Bool.{Bool, true, false, not, _&&_, _||_}
+use Prim.Native.Nat.{ℕ, _+_, _*_, _%_}
+use lib.Dec.{eqb, ltb}
+use Rattle.ground.specs.Choose.{pick}
+use Rattle.unit.specs.declared.mux.Setting.{Setting}
+use Rattle.driver.specs.Text.{isDigit}
+use Rattle.settings.specs.declared.typed.Line.{Line}
+
+-- a line of which nothing is read yet
+abbrev pub blank : Line
+blank = record { block = 0; ports = 0; base = 0; count = 0; inside = false; wrong = false }
+
+-- a number begins with a digit, and those before it move up; a fourth is wrong
+unfoldable pub begun : Line → ℕ → Line
+begun t digit =
+    pick (ltb (t .count) 3)
+    (record { block = t .ports; ports = t .base; base = digit; count = t .count + 1; inside = true; wrong = t .wrong })
+    (record { block = t .ports; ports = t .base; base = digit; count = t .count; inside = true; wrong = true })
+
+-- the number has one more digit; from 2^32 on it is wrong
+abbrev pub extended : Line → ℕ → Line
+extended t digit =
+    record {
+      block = t .block;
+      ports = t .ports;
+      base = (t .base * 10 + digit) % 4294967296;
+      count = t .count;
+      inside = t .inside;
+      wrong = t .wrong || ltb 4294967295 (t .base * 10 + digit);
+    }
+
+-- a digit, of a number that goes on or of a new one
+unfoldable pub digitTyped : Line → ℕ → Line
+digitTyped t b = pick (t .inside) (extended t (b % 16)) (begun t (b % 16))
+
+-- any other byte ends the number; but for a space it is wrong
+abbrev pub spaced : Line → ℕ → Line
+spaced t b =
+    record {
+      block = t .block;
+      ports = t .ports;
+      base = t .base;
+      count = t .count;
+      inside = false;
+      wrong = t .wrong || not (eqb b 32);
+    }
+
+-- the line with one more byte
+unfoldable pub typed : Line → ℕ → Line
+typed t b = pick (isDigit b) (digitTyped t b) (spaced t b)
+
+-- the line is three numbers and nothing else
+abbrev pub whole : Line → Bool
+whole t = not (t .wrong) && eqb (t .count) 3
+
+-- the setting that it asks for
+abbrev pub settingOf : Line → Setting
+settingOf t = record { block = t .block; ports = t .ports; base = t .base }

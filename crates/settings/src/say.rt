@@ -1,0 +1,84 @@
+// What a caretaker is answered: setup's word on the setting, the sentence for its number, and what to type instead.
+use crate::advice::advised;
+use crate::typed::Line;
+use crate::typed::setting_of;
+use crate::typed::whole;
+use driver::say::and;
+use driver::say::nothing;
+use driver::say::print;
+use io::print_decimal;
+use io::write_all;
+use unit::mux::Setting;
+use unit::refusal::setup_code;
+ghost use mathlib.Core.Path.{_≡_};
+ghost use Rattle.settings.specs.Answer.{answerTo};
+
+// Whether the line was three numbers; then setup's number for them, and what to type instead.
+pub struct Answer {
+    pub whole: bool,
+    pub code: u8,
+    pub instead: Setting,
+}
+
+// The answer to a line.
+pub fn answered(t: Line) -> Answer
+    ensures { λ r. ⌜ r ≡ answerTo t ⌝ }
+{
+    let s = setting_of(t);
+    Answer {
+        whole: whole(t),
+        code: setup_code(s),
+        instead: advised(s),
+    }
+}
+
+// The sentence for a number, as docs/CARETAKER.md has it.
+fn say_sentence(code: u8) {
+    match code {
+        1 => {
+            write_all(1, b"the block size is not 8, 16 or 32\n");
+        }
+        2 => {
+            write_all(1, b"the number of ports is 0, or above 128\n");
+        }
+        3 => {
+            write_all(1, b"the base is not a multiple of 8 times the block size\n");
+        }
+        11 => {
+            write_all(1, b"the base is above 32767, the last word of the memory\n");
+        }
+        4 => {
+            write_all(
+                1,
+                b"the control area crosses a multiple of 128 times the block size\n",
+            );
+        }
+        _ => {
+            write_all(1, b"the control area ends past the memory\n");
+        }
+    }
+}
+
+// A refusal: its number, its sentence, and what to type instead.
+fn say_refused(code: u8, instead: Setting) {
+    write_all(1, b"refused, ");
+    print_decimal(1, code as u64);
+    write_all(1, b": ");
+    say_sentence(code);
+    write_all(1, b"type instead: ");
+    let sizes = and(and(nothing(), instead.block as u64), instead.ports as u64);
+    print(and(sizes, instead.base as u64));
+}
+
+// The answer, printed.
+pub fn say(a: Answer) {
+    if !a.whole {
+        write_all(1, b"please type three numbers: block size, ports, base\n");
+        return;
+    }
+    if a.code == 0 {
+        write_all(1, b"accepted\n");
+        return;
+    }
+    say_refused(a.code, a.instead);
+}

@@ -1,0 +1,108 @@
+// The line that a caretaker types: three numbers with spaces between them, read byte by byte.
+use driver::read::is_digit;
+use unit::mux::Setting;
+ghost use mathlib.Core.Path.{_≡_};
+ghost use Prim.Native.Nat.{_<_};
+ghost use Rattle.settings.specs.Typed.{blank, begun, extended, digitTyped, spaced, typed, whole, settingOf};
+
+// What is read of a line so far: its last three numbers, how many it has, whether the last of them may go on, and whether anything on it is wrong.
+pub struct Line {
+    pub block: u32,
+    pub ports: u32,
+    pub base: u32,
+    pub count: u32,
+    pub inside: bool,
+    pub wrong: bool,
+}
+
+// A line of which nothing is read yet.
+pub fn blank() -> Line
+    ensures { λ r. ⌜ r ≡ blank ⌝ }
+{
+    Line {
+        block: 0,
+        ports: 0,
+        base: 0,
+        count: 0,
+        inside: false,
+        wrong: false,
+    }
+}
+
+// A number begins with a digit, and those before it move up; a fourth is wrong.
+fn begun(t: Line, digit: u32) -> Line
+    ensures { λ r. ⌜ r ≡ begun t digit ⌝ }
+{
+    let mut r = t;
+    r.block = t.ports;
+    r.ports = t.base;
+    r.base = digit;
+    r.inside = true;
+    if t.count < 3 {
+        r.count = t.count + 1;
+        return r;
+    }
+    r.wrong = true;
+    r
+}
+
+// The number has one more digit; from 2^32 on it is wrong.
+fn extended(t: Line, digit: u32) -> Line
+    requires { ⌜ digit < 16 ⌝ }
+    ensures { λ r. ⌜ r ≡ extended t digit ⌝ }
+{
+    let number = t.base as u64 * 10 + digit as u64;
+    let mut r = t;
+    r.base = (number % 4294967296) as u32;
+    r.wrong = t.wrong | (4294967295 < number);
+    r
+}
+
+// A digit, of a number that goes on or of a new one.
+fn digit_typed(t: Line, b: u8) -> Line
+    ensures { λ r. ⌜ r ≡ digitTyped t b ⌝ }
+{
+    let digit = (b % 16) as u32;
+    if t.inside {
+        return extended(t, digit);
+    }
+    begun(t, digit)
+}
+
+// Any other byte ends the number; but for a space it is wrong.
+fn spaced(t: Line, b: u8) -> Line
+    ensures { λ r. ⌜ r ≡ spaced t b ⌝ }
+{
+    let mut r = t;
+    r.inside = false;
+    r.wrong = t.wrong | (b != 32);
+    r
+}
+
+// The line with one more byte.
+pub fn typed(t: Line, b: u8) -> Line
+    ensures { λ r. ⌜ r ≡ typed t b ⌝ }
+{
+    if is_digit(b) {
+        return digit_typed(t, b);
+    }
+    spaced(t, b)
+}
+
+// Whether the line is three numbers and nothing else.
+pub fn whole(t: Line) -> bool
+    ensures { λ r. ⌜ r ≡ whole t ⌝ }
+{
+    !t.wrong & (t.count == 3)
+}
+
+// The setting that the line asks for.
+pub fn setting_of(t: Line) -> Setting
+    ensures { λ r. ⌜ r ≡ settingOf t ⌝ }
+{
+    Setting {
+        block: t.block,
+        ports: t.ports,
+        base: t.base,
+    }
+}
