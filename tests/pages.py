@@ -3,7 +3,8 @@
 
   pages.py            checks: every name that a page cites stands in the code, the definitions or the tests; every edit that docs/CLAIMS.md cites is
                       there, and every edit that is there is cited; every decision that a page cites has its entry; README.md gives each file of
-                      definitions with its length, and leaves none out
+                      definitions with its length, and leaves none out; docs/CARETAKER.md has each sentence of the caretakers' program,
+                      and its examples are what the second program answers
   pages.py --write    writes the lengths into README.md
 """
 import pathlib
@@ -11,9 +12,12 @@ import re
 import sys
 
 ROOT = pathlib.Path(__file__).resolve().parent.parent
+sys.path.insert(0, str(ROOT / 'tests/second'))
+import settings2  # noqa: E402
+
 ENDINGS = {'.rt', '.antt', '.py', '.sh'}
 # Crates whose definitions speak of the programs and not of the multiplexer.
-PROGRAMS = {'driver', 'compared', 'watch'}
+PROGRAMS = {'driver', 'compared', 'watch', 'settings'}
 PAGES = ['README.md', 'docs/CLAIMS.md', 'docs/DECISIONS.md', 'docs/CHANGING.md', 'docs/CARETAKER.md']
 
 
@@ -57,6 +61,30 @@ def decisions_there():
         for name in sorted(set(re.findall(r'\b(D\d+)\b', read(page))) - entries):
             lost.append(f'{page.relative_to(ROOT)} cites {name}, which has no entry')
     return lost
+
+
+def entries():
+    """The entries of docs/CARETAKER.md that have a sentence: number, sentence, and each setting with what to type instead."""
+    page = read(ROOT / 'docs/CARETAKER.md')
+    for number, sentence, rest in re.findall(r'^ {4,5}(\d+)   (the \S.*)\n((?: {9}\S.*\n)+)', page, re.M):
+        yield int(number), sentence, re.findall(r'^ +(\d+ \d+ \d+) +type (\d+ \d+ \d+):', rest, re.M)
+
+
+def caretaker_told():
+    """Sentences of the caretakers' program that its page has not, or not with that number; examples there that the second program answers otherwise."""
+    program = read(ROOT / 'crates/settings/src/say.rt')
+    said = dict(re.findall(r'(\d+|_) => \{\s*write_all\(\s*1,\s*b"([^"]*)\\n"', program))
+    told = {number: sentence for number, sentence, _ in entries()}
+    lost = [
+        f'docs/CARETAKER.md has for {number}: {told.get(number)}; the program says: {sentence}'
+        for number, sentence in [(5 if key == '_' else int(key), sentence) for key, sentence in said.items()]
+        if told.get(number) != sentence
+    ]
+    for number, _, examples in entries():
+        for typed, instead in examples:
+            if settings2.answer(typed) != [f'refused, {number}:', f'type instead: {instead}']:
+                lost.append(f'docs/CARETAKER.md has {typed}, {number}, {instead}; the second program answers: {settings2.answer(typed)}')
+    return lost if said and told else ['docs/CARETAKER.md has no entry with a sentence']
 
 
 def definitions():
@@ -110,7 +138,7 @@ def main():
         write()
         return 0
     passed = failed = 0
-    for check in (names_stand, edits_cited, decisions_there, lengths_right):
+    for check in (names_stand, edits_cited, decisions_there, lengths_right, caretaker_told):
         lost = check()
         print('\n'.join(lost + [f'pages, {check.__name__.replace("_", " ")}: {"FAILED" if lost else "ok"}']))
         passed, failed = (passed, failed + 1) if lost else (passed + 1, failed)
