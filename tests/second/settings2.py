@@ -10,7 +10,11 @@ after as one likes. It is answered by `accepted`, by two lines
     type instead: B P A
 
 or by `please type three numbers: block size, ports, base`, where it is no such line or a number is
-2^32 or more. A last line without a newline is not answered. SENTENCE may be any text. Exit status
+2^32 or more. A last line without a newline is not answered. SENTENCE may be any text.
+
+B is the typed block size if that is 8, 16 or 32, else 32. P is the typed number of ports if that is
+1 to 128; 0 becomes 1, and more than 128 become 128. A is the largest base at or below the typed one
+that setup takes with B and P, so the base is kept where it can stay; 0 is always taken. Exit status
 0 only where all lines agree and every kind of answer was among them.
 """
 
@@ -29,8 +33,9 @@ ADVICE = 'type instead: '
 # Only the digits 0 to 9 and the space: no tab, no sign, no digit of another script.
 TYPED = re.compile(' *([0-9]+) +([0-9]+) +([0-9]+) *')
 
-WAYS = ('base kept', 'base down to a multiple of 8b', 'base down to a multiple of 8b below 32768',
-        'base down to a multiple of 128b', 'base down to a multiple of 128b below 32768')
+LAST, FURTHER = 'base down to the last multiple of 8b', 'base further down, as the area would cross'
+ABOVE = ', from above 32767'
+WAYS = ('base kept', LAST, LAST + ABOVE, FURTHER, FURTHER + ABOVE)
 SIZES = ('block size kept', 'block size becomes 32', 'ports kept', 'ports become 1', 'ports become 128')
 KINDS = ('accepted', 'please', *(f'refused, {code}' for code in mux2.SETUP_ROWS), *SIZES, *WAYS)
 NEVER_ASKED = 'refused, 5'                  # number 4 comes first, so a text need not reach it
@@ -65,15 +70,13 @@ def mended_sizes(b, ports):
 
 
 def mended_base(b, ports, base):
-    """The base to type instead, for sizes that are right, and how it was found."""
+    """The largest base at or below the typed one that setup takes, for sizes that are right, and how it was found."""
     if refusal(b, ports, base) == 0:
         return base, 'base kept'
-    below = ' below 32768' if base > HIGHEST else ''
-    for times in (8, 128):
-        unit = times * b
-        lower = min(base, HIGHEST) // unit * unit
-        if times == 128 or refusal(b, ports, lower) == 0:
-            return lower, f'base down to a multiple of {times}b{below}'
+    eight = 8 * b
+    last = min(base, HIGHEST) // eight * eight
+    lower = next(a for a in range(last, -1, -eight) if refusal(b, ports, a) == 0)
+    return lower, (LAST if lower == last else FURTHER) + (ABOVE if base > HIGHEST else '')
 
 
 def answer_and_kinds(line):
@@ -216,6 +219,16 @@ class Typist:
                 base = base // (8 * b) * 8 * b
             yield self.plain(b, 1 + self.below(self.one_of((8, 128, 132))), base)
 
+    def crossing_lines(self):
+        """Areas that cross by little, so that the base to type lies at every place in a stretch of 128 blocks."""
+        yield from ('32 33 15360', '8 121 64', '16 100 2047')
+        for b in mux2.BLOCKS:
+            for place in range(1, 16):
+                base, room = (place % 8 * 16 + place) * 8 * b, 128 - 8 * place
+                for ports in (room + 1, room + 8, room + 9):
+                    yield self.plain(b, ports, base)
+                    yield self.plain(b, ports, base + 8 * b - 1)
+
     def good_numbers(self):
         b = self.one_of(mux2.BLOCKS)
         return [str(x) for x in (b, self.one_of((1, 8, 128)), self.one_of((0, 8 * b, 128 * b, 100, 32768)))]
@@ -282,7 +295,7 @@ class Typist:
     def lines(self):
         """All the lines, mixed, so that each kind comes after each other kind."""
         lines = [*self.edge_lines(), *self.wrong_block_lines(), *self.pair_lines(), *self.random_lines(500),
-                 *self.spaced_lines(150), *self.too_big_lines(), *self.ill_formed_lines()]
+                 *self.spaced_lines(150), *self.too_big_lines(), *self.ill_formed_lines(), *self.crossing_lines()]
         keys = [(self.random(), number) for number in range(len(lines))]
         return [lines[number] for _, number in sorted(keys)]
 

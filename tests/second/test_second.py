@@ -245,20 +245,21 @@ def test_settings_answers():
     for typed, code, advice in (
             ('7 0 0', 1, '32 1 0'), ('7 200 4294967295', 1, '32 128 28672'), ('8 0 64', 2, '8 1 64'),
             ('8 129 64', 2, '8 128 0'), ('8 8 32', 3, '8 8 0'), ('8 1 32767', 3, '8 1 32704'),
-            ('8 1 32768', 11, '8 1 32704'), ('16 8 4294967168', 11, '16 8 32640'), ('8 9 32768', 11, '8 9 31744'),
-            ('32 33 15360', 4, '32 33 12288'), ('32 121 256', 4, '32 121 0')):
+            ('8 1 32768', 11, '8 1 32704'), ('16 8 4294967168', 11, '16 8 32640'), ('8 9 32768', 11, '8 9 32640'),
+            ('32 33 15360', 4, '32 33 15104'), ('32 121 256', 4, '32 121 0'), ('8 121 64', 4, '8 121 0'),
+            ('8 9 960', 4, '8 9 896'), ('16 100 2047', 3, '16 100 384')):
         assert settings2.answer(typed) == [f'refused, {code}:', f'type instead: {advice}']
 
 
 def test_settings_advice():
+    setup = Mux2().setup
     for b in mux2.BLOCKS:
-        for ports in (1, 8, 9, 127, 128):
-            for base in settings2.edges(b):
-                allowed = range(min(base, 32767), -1, -1)
-                eighth = next(a for a in allowed if a % (8 * b) == 0)
-                whole = next(a for a in allowed if a % (128 * b) == 0)
-                wanted = [a for a in (base, eighth, whole) if setup_code(b, ports, a) == 0]
-                assert settings2.mended_base(b, ports, base)[0] == wanted[0]
+        for ports in (1, 8, 9, 33, 100, 121, 128):
+            taken = [a for a in range(32768) if setup(b, ports, a)[0] == 0]
+            for base in (*settings2.edges(b), *range(0, 33000, 4 * b)):
+                assert settings2.mended_base(b, ports, base)[0] == max(a for a in taken if a <= base)
+    ways = [settings2.mended_base(8, *asked)[1] for asked in ((8, 64), (8, 65), (8, 32768), (9, 960), (9, 32768))]
+    assert ways == list(settings2.WAYS)
 
 
 def printed(text):
@@ -279,12 +280,15 @@ def test_settings_check():
         return right[:at] + new + right[at + lines:]
 
     assert 2500 < text.count('\n') < 3500 and agrees(right)
+    assert {'32 33 15360', '8 121 64', '8 9 960', '16 100 2047'} <= set(text.split('\n'))
     advice = next(line for line in right if line.startswith('type instead: 8 '))
     for lines in (wrong('refused, 11:', ['refused, 3: a base']), wrong('refused, 3:', ['refused, 11: a base']),
                   wrong('refused, 4:', ['refused, 5: an area']), wrong('refused, 1:', ['refused, 1']),
                   wrong('refused, 2:', []), wrong('refused, 2:', ['refused, 2: ports'] * 2),
                   wrong(advice, ['type instead: 8 1 32767']), wrong(advice, ['type instead: 16 1 0']),
                   wrong(advice, [advice.replace('8', '08', 1)]), wrong(advice, []), wrong(advice, [advice] * 2),
+                  wrong('type instead: 32 33 15104', ['type instead: 32 33 12288']),
+                  wrong('type instead: 16 100 384', ['type instead: 16 100 256']),
                   wrong('accepted', ['please']), wrong('accepted', []), wrong('accepted', ['accepted', advice]),
                   wrong('please', ['accepted']), wrong('please', []), wrong('please', [settings2.PLEASE + ' ']),
                   right[:-1], right + ['accepted'], right + printed('8 1 65\n'), right + [''], right[1:], []):

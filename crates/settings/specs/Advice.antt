@@ -1,16 +1,16 @@
 -- What a caretaker is told to type instead of a setting that setup refuses.
 --   blockMended .. sizesMended   a block size and a number of ports that a unit can have
---   inMemory, lowered            the last base in the memory, at or below the one typed, that is a multiple of so many blocks
---   takes                        setup takes the setting
+--   inMemory                     a base in the memory
+--   multipleBelow, lastBase      the last multiple at or below a word, and the last base for so many ports in the word's stretch of 128 blocks
+--   baseMended                   the base, lowered as far as it must be
 --   advised                      what to type instead
--- Not here: that setup takes it, and that nothing else changes, in laws/Advice.
+-- Not here: that setup takes it, and that no higher base at or below the one typed would do, in laws/Advice.
 -- Assumes nothing.
-use mathlib.Core.Bool.{Bool}
-use Prim.Native.Nat.{ℕ, _-_, _*_, _%_}
+use Prim.Native.Nat.{ℕ, _+_, _-_, _*_, _/_, _%_}
 use lib.Dec.{eqb, ltb}
 use Rattle.ground.specs.Choose.{pick}
 use Rattle.unit.specs.declared.mux.Setting.{Setting}
-use Rattle.unit.specs.Refusals.{MOST-PORTS, tooHigh, refusal, ofSetup}
+use Rattle.unit.specs.Refusals.{MOST-PORTS, tooHigh}
 
 -- the block size, or 32, as delivered
 unfoldable pub blockMended : ℕ → ℕ
@@ -28,22 +28,26 @@ sizesMended s = record { block = blockMended (s .block); ports = portsMended (s 
 unfoldable pub inMemory : ℕ → ℕ
 inMemory a = pick (tooHigh a) 32767 a
 
--- the setting with the last base in the memory, at or below its own, that is a multiple of so many blocks
-unfoldable pub lowered : ℕ → Setting → Setting
-lowered blocks s =
-    record {
-      block = s .block;
-      ports = s .ports;
-      base = inMemory (s .base) - inMemory (s .base) % (blocks * s .block);
-    }
+-- the last multiple of m at or below a
+abbrev pub multipleBelow : ℕ → ℕ → ℕ
+multipleBelow m a = a - a % m
 
--- setup takes the setting
-unfoldable pub takes : Setting → Bool
-takes s = eqb (refusal (ofSetup s)) 0
+-- the last base for n ports in the stretch of 128 blocks of b words in which word a lies
+abbrev pub lastBase : ℕ → ℕ → ℕ → ℕ
+lastBase b n a = multipleBelow (128 * b) a + (128 - n) / 8 * (8 * b)
 
--- the sizes mended where they must be, and the base kept, or lowered to a multiple of 8 blocks, or of 128
+-- the lower of the two
+unfoldable pub baseMended : ℕ → ℕ → ℕ → ℕ
+baseMended b n a =
+    pick (ltb (multipleBelow (8 * b) (inMemory a)) (lastBase b n (inMemory a)))
+    (multipleBelow (8 * b) (inMemory a))
+    (lastBase b n (inMemory a))
+
+-- the sizes mended where they must be, and the base lowered as far as it must be
 unfoldable pub advised : Setting → Setting
 advised s =
-    pick (takes (sizesMended s))
-    (sizesMended s)
-    (pick (takes (lowered 8 (sizesMended s))) (lowered 8 (sizesMended s)) (lowered 128 (sizesMended s)))
+    record {
+      block = sizesMended s .block;
+      ports = sizesMended s .ports;
+      base = baseMended (sizesMended s .block) (sizesMended s .ports) (sizesMended s .base);
+    }

@@ -2,7 +2,6 @@
 use mathlib.Core.Path.{refl, ap}
 use lib.ListN.{take}
 use Rattle.settings.specs.declared.typed.Line.{Line}
-use Rattle.settings.specs.declared.Reader.{Reader}
 use Rattle.settings.specs.Answer.{read, ended}
 use borrow.Author.Needs.{needs}
 use Rattle.settings.proofs.turn.Statement.{statement}

@@ -1,24 +1,23 @@
 -- What to type instead of a setting that setup refuses.
 --   sized, sizes-kept   the mended sizes pass, and sizes that pass are kept
---   largest             a lowered base is the last in the memory, at or below the old one, that is such a multiple
 --   advised-taken       setup takes what is advised
+--   advised-last        no higher base at or below the one typed would do
 --   advised-kept        what setup takes is advised as it stands
 -- Not here: what is advised, in specs/Advice.
 -- Assumes nothing.
-use mathlib.Core.Path.{_≡_, refl, sym, ap, _∙_}
+use mathlib.Core.Path.{_≡_, refl, ap, _∙_}
 use mathlib.Core.Bool.{Bool, true, false}
 use Prim.Native.Nat.{ℕ, _+_, _-_, _*_, _/_, _%_, _<_, _≤_}
-use native.Mathlib.Nat.{le-div-iff-mul-le, mul-le-mul-right, div-add-mod'}
+use native.Mathlib.Nat.{div-add-mod'}
 use native.Mathlib.Omega.{arith}
 use lib.Dec.{eqb, ltb}
-use borrow.Author.Tests.{eqb-true, eqb-false, ltb-true, ltb-false, eq-eqb, ne-eqb, le-ltb}
+use borrow.Author.Tests.{eqb-false, ltb-true, ltb-false, ne-eqb, le-ltb}
 use Rattle.ground.specs.Choose.{pick}
-use Rattle.ground.specs.laws.Rows.{pick-true, pick-false}
 use Rattle.unit.specs.declared.mux.Setting.{Setting}
 use Rattle.unit.specs.Refusals.{MOST-PORTS, tooHigh, refusal, ofSetup}
-use Rattle.unit.specs.Sound.{IsBlock, eight, sixteen, thirty-two, SizeFits, BaseFits, AreaFits, Fits}
+use Rattle.unit.specs.Sound.{IsBlock, eight, sixteen, thirty-two, SizeFits, BaseFits, AreaFits}
 use Rattle.unit.specs.laws.Sound.{setup-iff}
-use Rattle.settings.specs.Advice.{blockMended, portsMended, sizesMended, inMemory, lowered, takes, advised}
+use Rattle.settings.specs.Advice.{blockMended, portsMended, sizesMended, inMemory, multipleBelow, lastBase, baseMended, advised}
 
 -- ---- the sizes
 
@@ -65,7 +64,7 @@ sizes-kept s f =
 
 -- ---- the base
 
--- in the memory
+-- it is in the memory, at or below the one typed
 in-memory : (a : ℕ) → (inMemory a ≤ 32767) × (inMemory a ≤ a)
 unfolding inMemory tooHigh pick
 in-memory a = go (ltb 32767 a) refl
@@ -74,7 +73,7 @@ in-memory a = go (ltb 32767 a) refl
     go true e = let h = ltb-true 32767 a e in (omega arith, omega arith)
     go false e = let h = ltb-false 32767 a e in (omega arith, omega arith)
 
--- and the last there
+-- and the last such
 last-in-memory : (a x : ℕ) → x ≤ a → x ≤ 32767 → x ≤ inMemory a
 unfolding inMemory tooHigh pick
 last-in-memory a x h g = go (ltb 32767 a)
@@ -83,56 +82,114 @@ last-in-memory a x h g = go (ltb 32767 a)
     go true = g
     go false = h
 
--- the largest multiple of m at or below a
-multiple : (m a x : ℕ) → 0 < m → x ≤ a → x % m ≡ 0 → x ≤ a - a % m
-multiple m a x z h e =
-    let g : x / m ≤ a / m = le-div-iff-mul-le {k = m} {x = x / m} {y = a} z .1 (omega (arith, div-add-mod' x m)) in
-    omega (arith, mul-le-mul-right m g, div-add-mod' x m, div-add-mod' a m, e)
+-- the rows of the base and of the area pass
+abbrev Area : ℕ → ℕ → ℕ → Type 0
+Area b n a =
+    BaseFits (record { block = b; ports = n; base = a }) × AreaFits (record { block = b; ports = n; base = a })
 
--- a lowered base is the last in the memory, at or below the old one, that is such a multiple
-pub largest : (blocks x : ℕ) (s : Setting) → 0 < blocks * s .block → x ≤ s .base → x ≤ 32767 → x % (blocks * s .block) ≡ 0 → x ≤ lowered blocks s .base
-unfolding lowered
-largest blocks x s z h g e = multiple (blocks * s .block) (inMemory (s .base)) x z (last-in-memory (s .base) x h g) e
+-- so they do of a multiple of 8 blocks, if the area lies in a stretch of 128 blocks that begins in the memory
+stretch : (b n x k : ℕ) → IsBlock b → 0 < n → x % (8 * b) ≡ 0 → k * (128 * b) ≤ x → x + n * b ≤ k * (128 * b) + 128 * b → k * (128 * b) ≤ 32767 → Area b n x
+stretch b n x k (eight e) p m f g l = let m′ = rw e at m in let f′ = rw e at f in let g′ = rw e at g in let l′ = rw e at l in rw e (record { aligned = m′; low = omega arith }, record { one = omega arith; inside = omega arith })
+stretch b n x k (sixteen e) p m f g l = let m′ = rw e at m in let f′ = rw e at f in let g′ = rw e at g in let l′ = rw e at l in rw e (record { aligned = m′; low = omega arith }, record { one = omega arith; inside = omega arith })
+stretch b n x k (thirty-two e) p m f g l = let m′ = rw e at m in let f′ = rw e at f in let g′ = rw e at g in let l′ = rw e at l in rw e (record { aligned = m′; low = omega arith }, record { one = omega arith; inside = omega arith })
 
--- an area from a multiple of 128 blocks on, in numbers
-record Area (b n a : ℕ) : Type 0 where
-  aligned : a % (8 * b) ≡ 0
-  low : a ≤ 32767
-  one : a / (128 * b) ≡ (a + n * b - 1) / (128 * b)
-  inside : a + n * b ≤ 32768
+-- the multiple of 8 blocks at or below a word is not below the word's stretch
+near-aligned : (b a : ℕ) → IsBlock b → (multipleBelow (8 * b) a % (8 * b) ≡ 0) × (multipleBelow (128 * b) a ≤ multipleBelow (8 * b) a)
+near-aligned b a (eight e) = rw e (omega arith, omega arith)
+near-aligned b a (sixteen e) = rw e (omega arith, omega arith)
+near-aligned b a (thirty-two e) = rw e (omega arith, omega arith)
 
--- it crosses nothing and ends in the memory
-area : (b n a : ℕ) → IsBlock b → 0 < n → n ≤ 128 → a ≤ 32767 → Area b n (a - a % (128 * b))
-area b n a (eight e) p q l = rw e (record { aligned = omega arith; low = omega arith; one = omega arith; inside = omega arith })
-area b n a (sixteen e) p q l = rw e (record { aligned = omega arith; low = omega arith; one = omega arith; inside = omega arith })
-area b n a (thirty-two e) p q l = rw e (record { aligned = omega arith; low = omega arith; one = omega arith; inside = omega arith })
+-- the last base for n ports is such a multiple, and its area ends with the stretch or before
+last-aligned : (b n a : ℕ) → IsBlock b → n ≤ 128 → (lastBase b n a % (8 * b) ≡ 0) × (lastBase b n a + n * b ≤ multipleBelow (128 * b) a + 128 * b)
+last-aligned b n a (eight e) q = rw e (omega arith, omega arith)
+last-aligned b n a (sixteen e) q = rw e (omega arith, omega arith)
+last-aligned b n a (thirty-two e) q = rw e (omega arith, omega arith)
 
--- so a base lowered to a multiple of 128 blocks fits
-lowered-fits : (s : Setting) → SizeFits s → Fits (lowered 128 s)
-unfolding lowered
-lowered-fits s f =
-    let r = area (s .block) (s .ports) (inMemory (s .base)) (f .block) (f .some-port) (f .few-ports) (in-memory (s .base) .0) in
-    record {
-      size = record { block = f .block; some-port = f .some-port; few-ports = f .few-ports };
-      base = record { aligned = r .aligned; low = r .low };
-      area = record { one = r .one; inside = r .inside };
-    }
+-- so they pass of the first where it is below the second
+near-area : (b n a : ℕ) → IsBlock b → 0 < n → n ≤ 128 → a ≤ 32767 → multipleBelow (8 * b) a < lastBase b n a → Area b n (multipleBelow (8 * b) a)
+near-area b n a i p q l h =
+    let d = div-add-mod' a (128 * b) in
+    let m = near-aligned b a i in
+    let r = last-aligned b n a i q in
+    stretch b n (multipleBelow (8 * b) a) (a / (128 * b)) i p (m .0) (omega arith) (omega arith) (omega arith)
+
+-- and always of the second
+last-area : (b n a : ℕ) → IsBlock b → 0 < n → n ≤ 128 → a ≤ 32767 → Area b n (lastBase b n a)
+last-area b n a i p q l =
+    let d = div-add-mod' a (128 * b) in
+    let r = last-aligned b n a i q in
+    stretch b n (lastBase b n a) (a / (128 * b)) i p (r .0) (omega arith) (omega arith) (omega arith)
+
+-- no base at or below a of which they pass is above either
+not-above : (b n a x : ℕ) → IsBlock b → 0 < n → n ≤ 128 → x ≤ a → Area b n x → (x ≤ multipleBelow (8 * b) a) × (x ≤ lastBase b n a)
+not-above b n a x (eight e) p q l r = let m = rw e at r .0 .aligned in let o = rw e at r .1 .one in rw e (omega arith, omega arith)
+not-above b n a x (sixteen e) p q l r = let m = rw e at r .0 .aligned in let o = rw e at r .1 .one in rw e (omega arith, omega arith)
+not-above b n a x (thirty-two e) p q l r = let m = rw e at r .0 .aligned in let o = rw e at r .1 .one in rw e (omega arith, omega arith)
+
+-- what is said of the lower of the two: they pass, it is at or below the base typed, and no higher one passes there
+record Mended (b n a x : ℕ) : Type 0 where
+  area : Area b n x
+  below : x ≤ a
+  last : (y : ℕ) → y ≤ a → Area b n y → y ≤ x
+
+mended : (b n a : ℕ) → IsBlock b → 0 < n → n ≤ 128 → Mended b n a (baseMended b n a)
+unfolding baseMended pick
+mended b n a i p q = go (ltb near last) refl
+  where
+    near : ℕ
+    near = multipleBelow (8 * b) (inMemory a)
+
+    last : ℕ
+    last = lastBase b n (inMemory a)
+
+    go : (t : Bool) → ltb near last ≡ t → Mended b n a (pick t near last)
+    go true e =
+        record {
+          area = near-area b n (inMemory a) i p q (in-memory a .0) (ltb-true near last e);
+          below = omega (arith, in-memory a .1);
+          last = λ y h r. not-above b n (inMemory a) y i p q (last-in-memory a y h (r .0 .low)) r .0;
+        }
+    go false e =
+        record {
+          area = last-area b n (inMemory a) i p q (in-memory a .0);
+          below = omega (arith, ltb-false near last e, in-memory a .1);
+          last = λ y h r. not-above b n (inMemory a) y i p q (last-in-memory a y h (r .0 .low)) r .1;
+        }
 
 -- ---- what is advised
 
--- setup takes it
+-- the setting with another base
+abbrev pub at : Setting → ℕ → Setting
+at s a = record { block = s .block; ports = s .ports; base = a }
+
+-- what is said of the base that is advised
+based : (s : Setting) → Mended (sizesMended s .block) (sizesMended s .ports) (s .base) (advised s .base)
+unfolding advised sizesMended
+based s = let f = sized s in mended _ _ (s .base) (f .block) (f .some-port) (f .few-ports)
+
+-- setup takes what is advised
 pub advised-taken : (s : Setting) → refusal (ofSetup (advised s)) ≡ 0
-unfolding advised takes pick
-advised-taken s = go (takes (sizesMended s)) (takes (lowered 8 (sizesMended s))) refl refl
-  where
-    go : (t k : Bool) → takes (sizesMended s) ≡ t → takes (lowered 8 (sizesMended s)) ≡ k → refusal (ofSetup (pick t (sizesMended s) (pick k (lowered 8 (sizesMended s)) (lowered 128 (sizesMended s))))) ≡ 0
-    go true k e f = eqb-true _ _ e
-    go false true e f = eqb-true _ _ f
-    go false false e f = setup-iff (lowered 128 (sizesMended s)) .1 (lowered-fits (sizesMended s) (sized s))
+unfolding advised
+advised-taken s =
+    let f = sized s in
+    let m = based s in
+    let z : SizeFits (advised s) = record { block = f .block; some-port = f .some-port; few-ports = f .few-ports } in
+    setup-iff (advised s) .1 (record { size = z; base = m .area .0; area = m .area .1 })
+
+-- it lowers the base or keeps it
+pub advised-below : (s : Setting) → advised s .base ≤ s .base
+advised-below s = based s .below
+
+-- and no higher base, at or below the one typed, would do
+pub advised-last : (s : Setting) (x : ℕ) → x ≤ s .base → refusal (ofSetup (at (advised s) x)) ≡ 0 → x ≤ advised s .base
+unfolding advised
+advised-last s x h e = let f = setup-iff (at (advised s) x) .0 e in based s .last x h (f .base, f .area)
 
 -- what setup takes is advised as it stands
 pub advised-kept : (s : Setting) → refusal (ofSetup s) ≡ 0 → advised s ≡ s
-unfolding advised takes
+unfolding advised
 advised-kept s e =
-    let k = sizes-kept s (setup-iff s .0 e .size) in
-    pick-true (takes (sizesMended s)) _ _ (eq-eqb _ _ (ap (λ r. refusal (ofSetup r)) k ∙ e)) ∙ k
+    let f = setup-iff s .0 e in
+    let m = mended (s .block) (s .ports) (s .base) (f .size .block) (f .size .some-port) (f .size .few-ports) in
+    let b : baseMended (s .block) (s .ports) (s .base) ≡ s .base = omega (arith, m .below, m .last (s .base) (omega arith) (f .base, f .area)) in
+    ap (λ (z : Setting). at z (baseMended (z .block) (z .ports) (z .base))) (sizes-kept s (f .size)) ∙ ap (λ (a : ℕ). at s a) b

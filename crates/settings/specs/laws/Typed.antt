@@ -10,7 +10,7 @@ use Prim.Native.Nat.{ℕ, zero, suc, _+_, _*_, _/_, _%_, _^_, _<_, _≤_}
 use native.Mathlib.Nat.{pow-suc, div-lt-iff-lt-mul}
 use native.Mathlib.Decide.{decLt}
 use native.Mathlib.Omega.{arith}
-use lib.Dec.{eqb, ltb}
+use lib.Dec.{ltb}
 use borrow.Author.Tests.{lt-ltb, le-ltb}
 use Rattle.ground.specs.Choose.{pick}
 use Rattle.unit.specs.declared.mux.Setting.{Setting}
@@ -19,7 +19,7 @@ use Rattle.driver.specs.Text.{isDigit}
 use Rattle.driver.specs.Printed.{numeral, decimal}
 use Rattle.settings.specs.declared.typed.Line.{Line}
 use Rattle.settings.specs.declared.say.Answer.{Answer}
-use Rattle.settings.specs.Typed.{blank, begun, extended, digitTyped, spaced, typed, whole, settingOf}
+use Rattle.settings.specs.Typed.{blank, begun, digitTyped, spaced, typed}
 use Rattle.settings.specs.Advice.{advised}
 use Rattle.settings.specs.Answer.{answerTo}
 
@@ -83,12 +83,20 @@ unfolding typed isDigit pick
 space t x y rest h c w =
     number-then y (spaced (and t x) 32) rest h refl (omega arith) ∙ rw w
 
+-- what setup says of a setting, and what to type instead
+abbrev pub told : Setting → Answer
+told s = record { whole = true; code = refusal (ofSetup s); instead = advised s }
+
 -- the bytes of a line of three numbers, without its end
 abbrev pub spelled : ℕ → ℕ → ℕ → List ℕ
 spelled b n a = decimal b ++ (32 ∷ (decimal n ++ (32 ∷ decimal a)))
 
--- is answered by what setup says of exactly those
-pub line-read : (b n a : ℕ) → b < 4294967296 → n < 4294967296 → a < 4294967296 → foldl typed blank (spelled b n a) ≡ and (and (and blank b) n) a
-line-read b n a h g f =
+-- it is read as the three
+three : (b n a : ℕ) → b < 4294967296 → n < 4294967296 → a < 4294967296 → foldl typed blank (spelled b n a) ≡ and (and (and blank b) n) a
+three b n a h g f =
     number-then b blank _ h refl (omega arith) ∙ space blank b n _ g (omega arith) refl ∙
     ap (λ (ys : List ℕ). foldl typed (and (and blank b) n) (32 ∷ ys)) (sym (append-nil (decimal a))) ∙ space (and blank b) n a [] f (omega arith) refl
+
+-- and answered by what setup says of exactly those
+pub line-read : (b n a : ℕ) → b < 4294967296 → n < 4294967296 → a < 4294967296 → answerTo (foldl typed blank (spelled b n a)) ≡ told (record { block = b; ports = n; base = a })
+line-read b n a h g f = ap answerTo (three b n a h g f)
