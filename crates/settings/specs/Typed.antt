@@ -26,7 +26,7 @@ begun t digit =
     (record { block = t .ports; ports = t .base; base = digit; count = t .count; inside = true; wrong = true })
 
 -- the number has one more digit; from 2^32 on it is wrong
-abbrev pub extended : Line → ℕ → Line
+unfoldable pub extended : Line → ℕ → Line
 extended t digit =
     record {
       block = t .block;

@@ -19,7 +19,7 @@ use Rattle.driver.specs.Text.{isDigit}
 use Rattle.driver.specs.Printed.{numeral, decimal}
 use Rattle.settings.specs.declared.typed.Line.{Line}
 use Rattle.settings.specs.declared.say.Answer.{Answer}
-use Rattle.settings.specs.Typed.{blank, begun, digitTyped, spaced, typed}
+use Rattle.settings.specs.Typed.{blank, begun, extended, digitTyped, spaced, typed}
 use Rattle.settings.specs.Advice.{advised}
 use Rattle.settings.specs.Answer.{answerTo}
 
@@ -41,7 +41,7 @@ first t x i c h =
 
 -- another digit of it
 next : (t : Line) (x y : ℕ) → y < 10 → x * 10 + y < 4294967296 → typed (and t x) (48 + y) ≡ and t (x * 10 + y)
-unfolding typed digitTyped pick
+unfolding typed digitTyped extended pick
 next t x y h g =
     let e : (48 + y) % 16 ≡ y = omega arith in
     let m : (x * 10 + y) % 4294967296 ≡ x * 10 + y = omega arith in
