@@ -9,7 +9,7 @@
 use mathlib.Core.Path.{_≡_, refl, sym, ap, _∙_}
 use mathlib.Core.Bool.{Bool, true, false, not, _||_}
 use mathlib.Core.List.{List, [], _∷_, _++_}
-use mathlib.Core.Logic.{_↔_, _⊎_, inl, inr}
+use mathlib.Core.Logic.{_↔_}
 use Prim.Native.Nat.{ℕ, _*_, _%_, _<_}
 use native.Mathlib.Omega.{arith}
 use lib.Dec.{eqb, leb, ltb}
@@ -100,21 +100,25 @@ unsoundWas u =
 
 -- ---- what changed
 
--- the first rows of both tables, whatever their tests are: the same number, or 11 where it was 3
-apart : (a b m h : Bool) (k : ℕ) → (pick a 1 (pick b 2 (pick m 3 (pick h 11 k))) ≡ pick a 1 (pick b 2 (pick (m || h) 3 k))) ⊎ ((pick a 1 (pick b 2 (pick m 3 (pick h 11 k))) ≡ 11) × (pick a 1 (pick b 2 (pick (m || h) 3 k)) ≡ 3))
-unfolding pick
-apart true b m h k = inl refl
-apart false true m h k = inl refl
-apart false false true h k = inl refl
-apart false false false true k = inr (refl, refl)
-apart false false false false k = inl refl
+-- the numbers of the two tables: the same, or 11 where it was 3
+data Tables (now was : ℕ) : Type 0 where
+  alike : now ≡ was → Tables now was
+  apart : now ≡ TOO-HIGH → was ≡ 3 → Tables now was
 
--- the two tables: the same number, or 11 where it was 3
-tables : (s : Setting) → (refusal (ofSetup s) ≡ firstOf (rowsWas s)) ⊎ ((refusal (ofSetup s) ≡ TOO-HIGH) × (firstOf (rowsWas s) ≡ 3))
+-- whatever the tests of their first rows are
+by-tests : (a b m h : Bool) (k : ℕ) → Tables (pick a 1 (pick b 2 (pick m 3 (pick h 11 k)))) (pick a 1 (pick b 2 (pick (m || h) 3 k)))
+unfolding pick
+by-tests true b m h k = alike refl
+by-tests false true m h k = alike refl
+by-tests false false true h k = alike refl
+by-tests false false false true k = apart refl refl
+by-tests false false false false k = alike refl
+
+tables : (s : Setting) → Tables (refusal (ofSetup s)) (firstOf (rowsWas s))
 unfolding settingRows sizeRows baseRows areaRows rowsWas badBaseWas misaligned tooHigh firstOf
 tables s =
     rw (setup-refusal s)
-    (apart (badBlock (s .block)) (badPorts (s .ports)) (misaligned (s .block) (s .base)) (tooHigh (s .base)) (firstOf (areaRows s)))
+    (by-tests (badBlock (s .block)) (badPorts (s .ports)) (misaligned (s .block) (s .base)) (tooHigh (s .base)) (firstOf (areaRows s)))
 
 -- a setup answers as it did, but for one case
 pub record AsBefore (s : Setting) : Type 0 where
@@ -130,30 +134,36 @@ pub as-before : (s : Setting) → AsBefore s
 unfolding setup setupWas guarded pick rowsWas
 as-before s = go (tables s)
   where
-    go : (refusal (ofSetup s) ≡ firstOf (rowsWas s)) ⊎ ((refusal (ofSetup s) ≡ TOO-HIGH) × (firstOf (rowsWas s) ≡ 3)) → AsBefore s
-    go (inl e) =
-        let w : setup s ≡ setupWas s = ap (λ k. guarded k noMux (accepted 0 (fresh s))) e in
+    answer : ℕ → Replied
+    answer k = guarded k noMux (accepted 0 (fresh s))
+
+    go : Tables (refusal (ofSetup s)) (firstOf (rowsWas s)) → AsBefore s
+    go (alike e) =
+        let w : setup s ≡ setupWas s = ap answer e in
         record {
           was-taken = λ _. w;
           is-taken = λ _. w;
           changed = λ h. absurd (never (rowsWas s) TOO-HIGH refl (sym e ∙ too-high-iff s .1 h));
           same = λ _. w;
         }
-    go (inr p) =
-        let was : setupWas s ≡ refused 3 noMux = ap (λ k. guarded k noMux (accepted 0 (fresh s))) (p .1) in
-        let now : setup s ≡ refused 11 noMux = ap (λ k. guarded k noMux (accepted 0 (fresh s))) (p .0) in
+    go (apart now was) =
+        let three : setupWas s ≡ refused 3 noMux = ap answer was in
+        let eleven : setup s ≡ refused 11 noMux = ap answer now in
         record {
-          was-taken = λ e. let z : _≡_ {A = ℕ} 3 0 = sym (ap (λ r. r .reply .code) was) ∙ e in absurd (omega arith);
-          is-taken = λ e. let z : _≡_ {A = ℕ} 11 0 = sym (ap (λ r. r .reply .code) now) ∙ e in absurd (omega arith);
-          changed = λ _. (was, now);
-          same = λ h. absurd (h (too-high-iff s .0 (p .0)));
+          was-taken = λ e. let z : _≡_ {A = ℕ} 3 0 = sym (ap (λ r. r .reply .code) three) ∙ e in absurd (omega arith);
+          is-taken = λ e. let z : _≡_ {A = ℕ} 11 0 = sym (ap (λ r. r .reply .code) eleven) ∙ e in absurd (omega arith);
+          changed = λ _. (three, eleven);
+          same = λ h. absurd (h (too-high-iff s .0 now));
         }
+
+-- both tables give 0 together
+zero-together : (now was : ℕ) → Tables now was → eqb now 0 ≡ eqb was 0
+zero-together now was (alike e) = rw e
+zero-together now was (apart e f) = rw (e, f)
 
 -- row 6 refuses the same records
 pub sound-as-before : (u : Mux) → unsound u ≡ unsoundWas u
 unfolding unsound unsoundWas
-sound-as-before u = ap (λ t. not t || (leb (u .setting .ports) (u .pos) || Interrupt.unsound (u .irq))) (go (tables (u .setting)))
-  where
-    go : (refusal (ofSetup (u .setting)) ≡ firstOf (rowsWas (u .setting))) ⊎ ((refusal (ofSetup (u .setting)) ≡ TOO-HIGH) × (firstOf (rowsWas (u .setting)) ≡ 3)) → eqb (firstOf (settingRows (u .setting))) 0 ≡ eqb (firstOf (rowsWas (u .setting))) 0
-    go (inl e) = ap (λ k. eqb k 0) (sym (setup-refusal (u .setting)) ∙ e)
-    go (inr p) = ap (λ k. eqb k 0) (sym (setup-refusal (u .setting)) ∙ p .0) ∙ sym (ap (λ k. eqb k 0) (p .1))
+sound-as-before u =
+    ap (λ t. not t || (leb (u .setting .ports) (u .pos) || Interrupt.unsound (u .irq)))
+    (zero-together _ _ (rw (setup-refusal (u .setting)) at (tables (u .setting))))
