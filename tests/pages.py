@@ -3,8 +3,8 @@
 
   pages.py            checks: every name that a page cites stands in the code, the definitions or the tests; every edit that docs/CLAIMS.md cites is
                       there, and every edit that is there is cited; every decision that a page cites has its entry; README.md gives each file of
-                      definitions with its length, and leaves none out; docs/CARETAKER.md has each sentence of the caretakers' program,
-                      and its examples are what the second program answers
+                      definitions with its length, and leaves none out; docs/CARETAKER.md has setup's numbers in their order with the sentences
+                      of the caretakers' program, and its examples are what the second program answers
   pages.py --write    writes the lengths into README.md
 """
 import pathlib
@@ -13,11 +13,14 @@ import sys
 
 ROOT = pathlib.Path(__file__).resolve().parent.parent
 sys.path.insert(0, str(ROOT / 'tests/second'))
+import mux2  # noqa: E402
 import settings2  # noqa: E402
 
 ENDINGS = {'.rt', '.antt', '.py', '.sh'}
 # Crates whose definitions speak of the programs and not of the multiplexer.
 PROGRAMS = {'driver', 'compared', 'watch', 'settings'}
+# The number of setup that no setting is known to give (D32).
+NEVER_GIVEN = 5
 PAGES = ['README.md', 'docs/CLAIMS.md', 'docs/DECISIONS.md', 'docs/CHANGING.md', 'docs/CARETAKER.md']
 
 
@@ -64,27 +67,53 @@ def decisions_there():
 
 
 def entries():
-    """The entries of docs/CARETAKER.md that have a sentence: number, sentence, and each setting with what to type instead."""
-    page = read(ROOT / 'docs/CARETAKER.md')
-    for number, sentence, rest in re.findall(r'^ {4,5}(\d+)   (the \S.*)\n((?: {9}\S.*\n)+)', page, re.M):
-        yield int(number), sentence, re.findall(r'^ +(\d+ \d+ \d+) +type (\d+ \d+ \d+):', rest, re.M)
+    """The entries of docs/CARETAKER.md that have a sentence, in their order: number, sentence, the lines below."""
+    for number, sentence, rest in re.findall(r'^ {4,5}(\d+)   (.*)\n((?: {9}.*\n)+)', read(ROOT / 'docs/CARETAKER.md'), re.M):
+        yield int(number), sentence, rest.splitlines()
 
 
-def caretaker_told():
-    """Sentences of the caretakers' program that its page has not, or not with that number; examples there that the second program answers otherwise."""
-    program = read(ROOT / 'crates/settings/src/say.rt')
-    said = dict(re.findall(r'(\d+|_) => \{\s*write_all\(\s*1,\s*b"([^"]*)\\n"', program))
-    told = {number: sentence for number, sentence, _ in entries()}
+def sentences():
+    """The sentence of each number, as the caretakers' program says it."""
+    arms = re.findall(r'^ {8}(\d+) => \{(.*?)^ {8}\}', read(ROOT / 'crates/settings/src/say.rt'), re.M | re.S)
+    return {int(number): ''.join(re.findall(r'write_all\(\s*1,\s*b"([^"]*)\\n"', arm)) for number, arm in arms}
+
+
+def sentences_told():
+    """Numbers that docs/CARETAKER.md or the caretakers' program leaves out or has in another order than setup, or with different sentences."""
+    told, said = {number: sentence for number, sentence, _ in entries()}, sentences()
     lost = [
-        f'docs/CARETAKER.md has for {number}: {told.get(number)}; the program says: {sentence}'
-        for number, sentence in [(5 if key == '_' else int(key), sentence) for key, sentence in said.items()]
-        if told.get(number) != sentence
+        f'{name} has the numbers {list(numbers)}; setup asks {list(mux2.SETUP_ROWS)}'
+        for name, numbers in (('docs/CARETAKER.md', told), ('crates/settings/src/say.rt', said))
+        if list(numbers) != list(mux2.SETUP_ROWS)
     ]
-    for number, _, examples in entries():
-        for typed, instead in examples:
-            if settings2.answer(typed) != [f'refused, {number}:', f'type instead: {instead}']:
-                lost.append(f'docs/CARETAKER.md has {typed}, {number}, {instead}; the second program answers: {settings2.answer(typed)}')
-    return lost if said and told else ['docs/CARETAKER.md has no entry with a sentence']
+    return lost + [f'docs/CARETAKER.md has for {n}: {told[n]}; the program says: {said.get(n)}' for n in told if told[n] != said.get(n)]
+
+
+def answers(typed, number, instead):
+    """Whether the second program refuses what was typed with that number and that advice."""
+    return settings2.answer(typed) == [f'refused, {number}:', f'type instead: {instead}']
+
+
+def accepts(typed):
+    return settings2.answer(typed) == ['accepted']
+
+
+def example_right(number, line):
+    """Whether a line below an entry is an example that the second program answers so; what else it offers is accepted."""
+    found = re.fullmatch(r' +(\d+ \d+ \d+) +type (\d+ \d+ \d+): (.*)', line)
+    return bool(found) and answers(found[1], number, found[2]) and all(accepts(offer) for offer in re.findall(r'\d+ \d+ \d+', found[3]))
+
+
+def examples_told():
+    """Examples of docs/CARETAKER.md that the second program answers otherwise; the last entry, which no setting gives, has none."""
+    page = read(ROOT / 'docs/CARETAKER.md')
+    lost = [line for number, _, lines in entries() if number != NEVER_GIVEN for line in lines if not example_right(number, line)]
+    shown = re.findall(r'^ {4}(\d+ \d+ \d+)\n {4}refused, (\d+): (.*)\n {4}type instead: (.*)$', page, re.M)
+    lost += [typed for typed, number, sentence, instead in shown if not answers(typed, number, instead) or sentences().get(int(number)) != sentence]
+    works = re.findall(r'(\d+) (\d+) (\d+)', ''.join(re.findall(r'^Settings that work: (.*)$', page, re.M)))
+    lost += [f'{b} {n} {a}' for b, ports, a in works for n in range(1, int(ports) + 1) if not accepts(f'{b} {n} {a}')]
+    lost += [] if shown and works else ['the shown answer, or the settings that work']
+    return [f'docs/CARETAKER.md is wrong here: {line.strip()}' for line in lost]
 
 
 def definitions():
@@ -138,7 +167,7 @@ def main():
         write()
         return 0
     passed = failed = 0
-    for check in (names_stand, edits_cited, decisions_there, lengths_right, caretaker_told):
+    for check in (names_stand, edits_cited, decisions_there, lengths_right, sentences_told, examples_told):
         lost = check()
         print('\n'.join(lost + [f'pages, {check.__name__.replace("_", " ")}: {"FAILED" if lost else "ok"}']))
         passed, failed = (passed, failed + 1) if lost else (passed + 1, failed)

@@ -1,4 +1,4 @@
--- What a caretaker is told to type instead of a setting that setup refuses.
+-- What a caretaker is told to type instead of a setting that setup refuses (document 02, K1; D48).
 --   blockMended .. sizesMended   a block size and a number of ports that a unit can have
 --   inMemory                     a base in the memory
 --   multipleBelow, lastBase      the last multiple at or below a word, and the last base for so many ports in the word's stretch of 128 blocks
@@ -12,7 +12,7 @@ use Rattle.ground.specs.Choose.{pick}
 use Rattle.unit.specs.declared.mux.Setting.{Setting}
 use Rattle.unit.specs.Refusals.{MOST-PORTS, tooHigh}
 
--- the block size, or 32, as delivered
+-- the block size, or 32, as delivered (001, appendix A)
 unfoldable pub blockMended : ℕ → ℕ
 blockMended b = pick (eqb b 8) 8 (pick (eqb b 16) 16 32)
 

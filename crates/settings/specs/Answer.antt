@@ -1,7 +1,8 @@
--- What a caretaker is answered.
+-- What a caretaker is answered (document 02, K1; D48).
 --   answerTo         the answer to a line
 --   taken            one byte of what is typed: at the end of a line it is answered, and the next begins
 --   readOn, shut, Turned   what is kept between two reads: some bytes were taken, or there is no more to read
+--   Heard            the line at the end: what some text leaves of a blank one
 -- Not here: the sentences, which the stored output holds; what follows, in laws/.
 -- Assumes nothing.
 use mathlib.Core.Path.{_≡_}
@@ -37,3 +38,8 @@ shut r = record { going = false; line = r .line }
 pub data Turned (r q : Reader) : Type 0 where
   read : (text : List ℕ) → q ≡ readOn r text → Turned r q
   ended : q ≡ shut r → Turned r q
+
+-- the line at the end: some text was taken from a blank line on, and this is what it leaves
+pub record Heard (l : Line) : Type 0 where
+  pub text : List ℕ
+  pub line : l ≡ foldl taken blank text

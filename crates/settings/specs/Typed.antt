@@ -1,9 +1,11 @@
--- The line that a caretaker types: three numbers with spaces between them, read byte by byte.
+-- The line that a caretaker types (D48): three decimal numbers with spaces between them, read byte by byte.
 --   blank                 a line of which nothing is read yet
 --   begun, extended       a number begins, or has one more digit
---   digitTyped, spaced    a digit, and any other byte
+--   digitTyped            a digit
+--   isSpace, spaced       what may stand between two numbers, and any byte that is no digit
 --   typed                 the line with one more byte
---   whole, settingOf      the line is three numbers and nothing else; the setting that it asks for
+--   started, whole        anything but spaces is on the line; it is three numbers and nothing else
+--   settingOf             the setting that it asks for
 -- Not here: a digit, in Text of the crate driver; what setup says of the setting, in Answer.
 -- Assumes nothing.
 use mathlib.Core.Bool.{Bool, true, false, not, _&&_, _||_}
@@ -41,6 +43,10 @@ extended t digit =
 unfoldable pub digitTyped : Line → ℕ → Line
 digitTyped t b = pick (t .inside) (extended t (b % 16)) (begun t (b % 16))
 
+-- a space, a tab, or the carriage return that some systems put at the end of a line
+unfoldable pub isSpace : ℕ → Bool
+isSpace b = eqb b 32 || (eqb b 9 || eqb b 13)
+
 -- any other byte ends the number; but for a space it is wrong
 abbrev pub spaced : Line → ℕ → Line
 spaced t b =
@@ -50,12 +56,16 @@ spaced t b =
       base = t .base;
       count = t .count;
       inside = false;
-      wrong = t .wrong || not (eqb b 32);
+      wrong = t .wrong || not (isSpace b);
     }
 
 -- the line with one more byte
 unfoldable pub typed : Line → ℕ → Line
 typed t b = pick (isDigit b) (digitTyped t b) (spaced t b)
+
+-- anything but spaces is on the line
+abbrev pub started : Line → Bool
+started t = t .wrong || not (eqb (t .count) 0)
 
 -- the line is three numbers and nothing else
 abbrev pub whole : Line → Bool

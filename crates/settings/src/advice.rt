@@ -1,6 +1,7 @@
 // What a caretaker is told to type instead of a setting that setup refuses.
 use unit::mux::Setting;
 use unit::refusal::MOST_PORTS;
+use unit::refusal::too_high;
 ghost use mathlib.Core.Path.{_≡_};
 ghost use Prim.Native.Nat.{_<_};
 ghost use Rattle.ground.specs.Choose.{Below};
@@ -45,7 +46,7 @@ fn sizes_mended(s: Setting) -> Setting
 fn in_memory(a: u32) -> u32
     ensures { λ r. ⌜ Below 32768 (inMemory a) r ⌝ }
 {
-    if 32767 < a {
+    if too_high(a) {
         return 32767;
     }
     a

@@ -7,10 +7,11 @@ use crate::say::answered;
 use crate::say::say;
 use crate::typed::Line;
 use crate::typed::blank;
+use crate::typed::started;
 use crate::typed::typed;
 ghost use mathlib.Core.Path.{_≡_};
 ghost use mathlib.Core.List.{foldl};
-ghost use Rattle.settings.specs.Answer.{taken, Turned};
+ghost use Rattle.settings.specs.Answer.{taken, Turned, Heard};
 
 // What is kept between two reads: whether there is more to read, and the line so far.
 struct Reader {
@@ -58,8 +59,10 @@ fn turn(r: Reader) -> Reader
     q
 }
 
-// A proved loop has to end, and nothing says that the input does. So the loop counts its turns down, from a number that no run uses up.
-fn main() {
+// All that is typed; the line at its end. The turns are counted down, from a number that no run uses up, since nothing says that the input ends.
+fn read_all() -> Line
+    ensures { λ r. ⌜ Heard r ⌝ }
+{
     let mut r = Reader {
         going: true,
         line: blank(),
@@ -68,5 +71,14 @@ fn main() {
     while turns > 0 && r.going {
         r = turn(r);
         turns -= 1;
+    }
+    r.line
+}
+
+// A last line that has no end is answered too.
+fn main() {
+    let line = read_all();
+    if started(line) {
+        say(answered(line));
     }
 }

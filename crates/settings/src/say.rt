@@ -53,8 +53,11 @@ fn say_sentence(code: u8) {
                 b"the control area crosses a multiple of 128 times the block size\n",
             );
         }
-        _ => {
+        5 => {
             write_all(1, b"the control area ends past the memory\n");
+        }
+        _ => {
+            write_all(1, b"no sentence is known for this number\n");
         }
     }
 }
@@ -73,7 +76,10 @@ fn say_refused(code: u8, instead: Setting) {
 // The answer, printed.
 pub fn say(a: Answer) {
     if !a.whole {
-        write_all(1, b"please type three numbers: block size, ports, base\n");
+        write_all(
+            1,
+            b"please type three decimal numbers below 4294967296: block size, ports, base\n",
+        );
         return;
     }
     if a.code == 0 {

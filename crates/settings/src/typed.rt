@@ -1,9 +1,9 @@
-// The line that a caretaker types: three numbers with spaces between them, read byte by byte.
+// The line that a caretaker types: three decimal numbers with spaces between them, read byte by byte.
 use driver::read::is_digit;
 use unit::mux::Setting;
 ghost use mathlib.Core.Path.{_≡_};
 ghost use Prim.Native.Nat.{_<_};
-ghost use Rattle.settings.specs.Typed.{blank, begun, extended, digitTyped, spaced, typed, whole, settingOf};
+ghost use Rattle.settings.specs.Typed.{blank, begun, extended, digitTyped, isSpace, spaced, typed, started, whole, settingOf};
 
 // What is read of a line so far: its last three numbers, how many it has, whether the last of them may go on, and whether anything on it is wrong.
 pub struct Line {
@@ -69,13 +69,26 @@ fn digit_typed(t: Line, b: u8) -> Line
     begun(t, digit)
 }
 
+// Whether the byte may stand between two numbers: a space, a tab, or the carriage return that some systems put at the end of a line.
+fn is_space(b: u8) -> bool
+    ensures { λ r. ⌜ r ≡ isSpace b ⌝ }
+{
+    if b == 32 {
+        return true;
+    }
+    if b == 9 {
+        return true;
+    }
+    b == 13
+}
+
 // Any other byte ends the number; but for a space it is wrong.
 fn spaced(t: Line, b: u8) -> Line
     ensures { λ r. ⌜ r ≡ spaced t b ⌝ }
 {
     let mut r = t;
     r.inside = false;
-    r.wrong = t.wrong | (b != 32);
+    r.wrong = t.wrong | !is_space(b);
     r
 }
 
@@ -87,6 +100,13 @@ pub fn typed(t: Line, b: u8) -> Line
         return digit_typed(t, b);
     }
     spaced(t, b)
+}
+
+// Whether anything but spaces is on the line.
+pub fn started(t: Line) -> bool
+    ensures { λ r. ⌜ r ≡ started t ⌝ }
+{
+    t.wrong | (t.count != 0)
 }
 
 // Whether the line is three numbers and nothing else.

@@ -68,7 +68,7 @@ fn misaligned(s: Setting) -> bool
 }
 
 // Row 11: the base is above 32767.
-fn too_high(a: u32) -> bool
+pub fn too_high(a: u32) -> bool
     ensures { λ r. ⌜ r ≡ tooHigh a ⌝ }
 {
     32767 < a

@@ -1,5 +1,6 @@
 -- What to type instead of a setting that setup refuses.
---   sized, sizes-kept   the mended sizes pass, and sizes that pass are kept
+--   sized               the mended sizes pass
+--   block-kept, ports-kept   a size that passes is kept, whatever the other is
 --   advised-taken       setup takes what is advised
 --   advised-last        no higher base at or below the one typed would do
 --   advised-kept        what setup takes is advised as it stands
@@ -16,7 +17,7 @@ use Rattle.ground.specs.Choose.{pick}
 use Rattle.unit.specs.declared.mux.Setting.{Setting}
 use Rattle.unit.specs.Refusals.{MOST-PORTS, tooHigh, refusal, ofSetup}
 use Rattle.unit.specs.Sound.{IsBlock, eight, sixteen, thirty-two, SizeFits, BaseFits, AreaFits}
-use Rattle.unit.specs.laws.Sound.{setup-iff}
+use Rattle.unit.specs.laws.Sound.{by-block, setup-iff}
 use Rattle.settings.specs.Advice.{blockMended, portsMended, sizesMended, inMemory, multipleBelow, lastBase, baseMended, advised}
 
 -- ---- the sizes
@@ -32,11 +33,9 @@ block-fits b = go (eqb b 8) (eqb b 16)
     go false false = thirty-two refl
 
 -- and a block size is kept
-block-kept : (b : ℕ) → IsBlock b → blockMended b ≡ b
+pub block-kept : (b : ℕ) → IsBlock b → blockMended b ≡ b
 unfolding blockMended pick
-block-kept b (eight e) = rw e
-block-kept b (sixteen e) = rw e
-block-kept b (thirty-two e) = rw e
+block-kept = by-block (λ b. blockMended b ≡ b) refl refl refl
 
 -- a mended number of ports is one
 ports-fit : (n : ℕ) → (0 < portsMended n) × (portsMended n ≤ 128)
@@ -55,12 +54,15 @@ sized s =
     let p = ports-fit (s .ports) in
     record { block = block-fits (s .block); some-port = p .0; few-ports = p .1 }
 
--- sizes that pass are kept
-pub sizes-kept : (s : Setting) → SizeFits s → sizesMended s ≡ s
-unfolding sizesMended portsMended pick
-sizes-kept s f =
-    let z : s .ports ≡ 0 → ⊥ = λ e. omega (arith, f .some-port, e) in
-    rw (block-kept (s .block) (f .block), ne-eqb (s .ports) 0 z, le-ltb 128 (s .ports) (f .few-ports))
+-- a number of ports that passes is kept
+pub ports-kept : (n : ℕ) → 0 < n → n ≤ 128 → portsMended n ≡ n
+unfolding portsMended pick
+ports-kept n p q = let z : n ≡ 0 → ⊥ = λ e. omega (arith, e) in rw (ne-eqb n 0 z, le-ltb 128 n q)
+
+-- and so both, where both pass
+sizes-kept : (s : Setting) → SizeFits s → sizesMended s ≡ s
+unfolding sizesMended
+sizes-kept s f = rw (block-kept (s .block) (f .block), ports-kept (s .ports) (f .some-port) (f .few-ports))
 
 -- ---- the base
 
@@ -88,43 +90,58 @@ Area b n a =
     BaseFits (record { block = b; ports = n; base = a }) × AreaFits (record { block = b; ports = n; base = a })
 
 -- so they do of a multiple of 8 blocks, if the area lies in a stretch of 128 blocks that begins in the memory
-stretch : (b n x k : ℕ) → IsBlock b → 0 < n → x % (8 * b) ≡ 0 → k * (128 * b) ≤ x → x + n * b ≤ k * (128 * b) + 128 * b → k * (128 * b) ≤ 32767 → Area b n x
-stretch b n x k (eight e) p m f g l = let m′ = rw e at m in let f′ = rw e at f in let g′ = rw e at g in let l′ = rw e at l in rw e (record { aligned = m′; low = omega arith }, record { one = omega arith; inside = omega arith })
-stretch b n x k (sixteen e) p m f g l = let m′ = rw e at m in let f′ = rw e at f in let g′ = rw e at g in let l′ = rw e at l in rw e (record { aligned = m′; low = omega arith }, record { one = omega arith; inside = omega arith })
-stretch b n x k (thirty-two e) p m f g l = let m′ = rw e at m in let f′ = rw e at f in let g′ = rw e at g in let l′ = rw e at l in rw e (record { aligned = m′; low = omega arith }, record { one = omega arith; inside = omega arith })
+abbrev Stretch : ℕ → ℕ → ℕ → ℕ → Type 0
+Stretch n x k b =
+    0 < n → x % (8 * b) ≡ 0 → k * (128 * b) ≤ x → x + n * b ≤ k * (128 * b) + 128 * b → k * (128 * b) ≤ 32767 → Area b n x
+
+stretch : (n x k b : ℕ) → IsBlock b → Stretch n x k b
+stretch n x k =
+    by-block (Stretch n x k)
+    (λ p m f g l. (record { aligned = m; low = omega arith }, record { one = omega arith; inside = omega arith }))
+    (λ p m f g l. (record { aligned = m; low = omega arith }, record { one = omega arith; inside = omega arith }))
+    (λ p m f g l. (record { aligned = m; low = omega arith }, record { one = omega arith; inside = omega arith }))
 
 -- the multiple of 8 blocks at or below a word is not below the word's stretch
-near-aligned : (b a : ℕ) → IsBlock b → (multipleBelow (8 * b) a % (8 * b) ≡ 0) × (multipleBelow (128 * b) a ≤ multipleBelow (8 * b) a)
-near-aligned b a (eight e) = rw e (omega arith, omega arith)
-near-aligned b a (sixteen e) = rw e (omega arith, omega arith)
-near-aligned b a (thirty-two e) = rw e (omega arith, omega arith)
+abbrev Near : ℕ → ℕ → Type 0
+Near a b = (multipleBelow (8 * b) a % (8 * b) ≡ 0) × (multipleBelow (128 * b) a ≤ multipleBelow (8 * b) a)
+
+near : (a b : ℕ) → IsBlock b → Near a b
+near a = by-block (Near a) (omega arith, omega arith) (omega arith, omega arith) (omega arith, omega arith)
 
 -- the last base for n ports is such a multiple, and its area ends with the stretch or before
-last-aligned : (b n a : ℕ) → IsBlock b → n ≤ 128 → (lastBase b n a % (8 * b) ≡ 0) × (lastBase b n a + n * b ≤ multipleBelow (128 * b) a + 128 * b)
-last-aligned b n a (eight e) q = rw e (omega arith, omega arith)
-last-aligned b n a (sixteen e) q = rw e (omega arith, omega arith)
-last-aligned b n a (thirty-two e) q = rw e (omega arith, omega arith)
+abbrev Last : ℕ → ℕ → ℕ → Type 0
+Last n a b =
+    n ≤ 128 → (lastBase b n a % (8 * b) ≡ 0) × (lastBase b n a + n * b ≤ multipleBelow (128 * b) a + 128 * b)
+
+last : (n a b : ℕ) → IsBlock b → Last n a b
+last n a = by-block (Last n a) (λ q. (omega arith, omega arith)) (λ q. (omega arith, omega arith)) (λ q. (omega arith, omega arith))
 
 -- so they pass of the first where it is below the second
 near-area : (b n a : ℕ) → IsBlock b → 0 < n → n ≤ 128 → a ≤ 32767 → multipleBelow (8 * b) a < lastBase b n a → Area b n (multipleBelow (8 * b) a)
 near-area b n a i p q l h =
     let d = div-add-mod' a (128 * b) in
-    let m = near-aligned b a i in
-    let r = last-aligned b n a i q in
-    stretch b n (multipleBelow (8 * b) a) (a / (128 * b)) i p (m .0) (omega arith) (omega arith) (omega arith)
+    let m = near a b i in
+    let r = last n a b i q in
+    stretch n (multipleBelow (8 * b) a) (a / (128 * b)) b i p (m .0) (omega arith) (omega arith) (omega arith)
 
 -- and always of the second
 last-area : (b n a : ℕ) → IsBlock b → 0 < n → n ≤ 128 → a ≤ 32767 → Area b n (lastBase b n a)
 last-area b n a i p q l =
     let d = div-add-mod' a (128 * b) in
-    let r = last-aligned b n a i q in
-    stretch b n (lastBase b n a) (a / (128 * b)) i p (r .0) (omega arith) (omega arith) (omega arith)
+    let r = last n a b i q in
+    stretch n (lastBase b n a) (a / (128 * b)) b i p (r .0) (omega arith) (omega arith) (omega arith)
 
 -- no base at or below a of which they pass is above either
-not-above : (b n a x : ℕ) → IsBlock b → 0 < n → n ≤ 128 → x ≤ a → Area b n x → (x ≤ multipleBelow (8 * b) a) × (x ≤ lastBase b n a)
-not-above b n a x (eight e) p q l r = let m = rw e at r .0 .aligned in let o = rw e at r .1 .one in rw e (omega arith, omega arith)
-not-above b n a x (sixteen e) p q l r = let m = rw e at r .0 .aligned in let o = rw e at r .1 .one in rw e (omega arith, omega arith)
-not-above b n a x (thirty-two e) p q l r = let m = rw e at r .0 .aligned in let o = rw e at r .1 .one in rw e (omega arith, omega arith)
+abbrev NotAbove : ℕ → ℕ → ℕ → ℕ → Type 0
+NotAbove n a x b =
+    0 < n → n ≤ 128 → x ≤ a → x % (8 * b) ≡ 0 → x / (128 * b) ≡ (x + n * b - 1) / (128 * b) → (x ≤ multipleBelow (8 * b) a) × (x ≤ lastBase b n a)
+
+not-above : (n a x b : ℕ) → IsBlock b → NotAbove n a x b
+not-above n a x =
+    by-block (NotAbove n a x)
+    (λ p q l m o. (omega arith, omega arith))
+    (λ p q l m o. (omega arith, omega arith))
+    (λ p q l m o. (omega arith, omega arith))
 
 -- what is said of the lower of the two: they pass, it is at or below the base typed, and no higher one passes there
 record Mended (b n a x : ℕ) : Type 0 where
@@ -134,26 +151,26 @@ record Mended (b n a x : ℕ) : Type 0 where
 
 mended : (b n a : ℕ) → IsBlock b → 0 < n → n ≤ 128 → Mended b n a (baseMended b n a)
 unfolding baseMended pick
-mended b n a i p q = go (ltb near last) refl
+mended b n a i p q = go (ltb lower higher) refl
   where
-    near : ℕ
-    near = multipleBelow (8 * b) (inMemory a)
+    lower : ℕ
+    lower = multipleBelow (8 * b) (inMemory a)
 
-    last : ℕ
-    last = lastBase b n (inMemory a)
+    higher : ℕ
+    higher = lastBase b n (inMemory a)
 
-    go : (t : Bool) → ltb near last ≡ t → Mended b n a (pick t near last)
+    go : (t : Bool) → ltb lower higher ≡ t → Mended b n a (pick t lower higher)
     go true e =
         record {
-          area = near-area b n (inMemory a) i p q (in-memory a .0) (ltb-true near last e);
+          area = near-area b n (inMemory a) i p q (in-memory a .0) (ltb-true lower higher e);
           below = omega (arith, in-memory a .1);
-          last = λ y h r. not-above b n (inMemory a) y i p q (last-in-memory a y h (r .0 .low)) r .0;
+          last = λ y h r. not-above n (inMemory a) y b i p q (last-in-memory a y h (r .0 .low)) (r .0 .aligned) (r .1 .one) .0;
         }
     go false e =
         record {
           area = last-area b n (inMemory a) i p q (in-memory a .0);
-          below = omega (arith, ltb-false near last e, in-memory a .1);
-          last = λ y h r. not-above b n (inMemory a) y i p q (last-in-memory a y h (r .0 .low)) r .1;
+          below = omega (arith, ltb-false lower higher e, in-memory a .1);
+          last = λ y h r. not-above n (inMemory a) y b i p q (last-in-memory a y h (r .0 .low)) (r .0 .aligned) (r .1 .one) .1;
         }
 
 -- ---- what is advised

@@ -1,20 +1,22 @@
 -- The two numbers of a wrong base, and what telling them apart changed (document 02, K1).
 --   OnlyHigh                 a base that is too high and has no other fault that is asked before
 --   misaligned-iff, too-high-iff   3 and 11, each in numbers: exactly where its row applies and none before it
---   rowsWas, setupWas, unsoundWas  setup's table, setup and row 6 as document 01 has them: for `as-before` and `sound-as-before` alone
+--   badBaseWas .. callRowsWas      row 3, setup's table, setup, row 6 and the table of the other calls as document 01 has them: for the comparison alone
 --   as-before                every setup answers as it did, but for OnlyHigh: 11 in the place of 3
---   sound-as-before          row 6 refuses the same records, so no other call answers otherwise
+--   sound-as-before, calls-as-before   row 6 refuses the same records, and every other call is refused as it was
 -- Not here: the table itself, in specs/Refusals; the law for every row, in Refusals.
 -- Assumes nothing.
 use mathlib.Core.Path.{_≡_, refl, sym, ap, _∙_}
 use mathlib.Core.Bool.{Bool, true, false, not, _||_}
 use mathlib.Core.List.{List, [], _∷_, _++_}
 use mathlib.Core.Logic.{_↔_}
+use mathlib.Core.Option.{Option, some, none}
 use Prim.Native.Nat.{ℕ, _*_, _%_, _<_}
 use native.Mathlib.Omega.{arith}
 use lib.Dec.{eqb, leb, ltb}
+use lib.ListN.{drop}
 use borrow.Author.Tests.{ltb-true, lt-ltb, eqb-false, ne-eqb, not-true}
-use Rattle.ground.specs.Choose.{pick, Row, row, firstOf}
+use Rattle.ground.specs.Choose.{pick, asked, Row, row, firstOf}
 use Rattle.ground.specs.laws.Rows.{first-zero, never, first-at}
 use Rattle.interrupt.specs.Interrupt as Interrupt
 use Rattle.unit.specs.declared.mux.Setting.{Setting}
@@ -22,7 +24,7 @@ use Rattle.unit.specs.declared.mux.Mux.{Mux}
 use Rattle.unit.specs.declared.reply.Replied.{Replied}
 use Rattle.unit.specs.Record.{fresh, noMux}
 use Rattle.unit.specs.Reply.{refused, accepted, guarded}
-use Rattle.unit.specs.Refusals.{MISALIGNED, TOO-HIGH, badBlock, badPorts, misaligned, tooHigh, crosses, overruns, sizeRows, baseRows, areaRows, settingRows, unsound, refusal, ofSetup}
+use Rattle.unit.specs.Refusals.{MISALIGNED, TOO-HIGH, badBlock, badPorts, misaligned, tooHigh, crosses, overruns, sizeRows, baseRows, areaRows, settingRows, unsound, Given, rowsOf, callRows, tableOf, refusal, ofSetup}
 use Rattle.unit.specs.Setup.{setup}
 use Rattle.unit.specs.Sound.{SizeFits}
 use Rattle.unit.specs.laws.Refusals.{setup-refusal}
@@ -78,7 +80,7 @@ too-high-iff s =
 unfoldable pub badBaseWas : ℕ → ℕ → Bool
 badBaseWas b a = not (eqb (a % (8 * b)) 0) || ltb 32767 a
 
--- rows 1 to 5
+-- rows 1 to 5; the tests of the other rows are today's, which K1 left alone
 unfoldable pub rowsWas : Setting → List Row
 rowsWas s =
     row 1 (badBlock (s .block))
@@ -97,6 +99,10 @@ unfoldable pub unsoundWas : Mux → Bool
 unsoundWas u =
     not (eqb (firstOf (rowsWas (u .setting))) 0)
     || (leb (u .setting .ports) (u .pos) || Interrupt.unsound (u .irq))
+
+-- the table of every call but setup: rows 7 to 10 are today's
+unfoldable pub callRowsWas : Given → List Row
+callRowsWas g = row 6 (asked (g .unit) (λ u. unsoundWas u)) ∷ drop 1 (callRows g)
 
 -- ---- what changed
 
@@ -167,3 +173,14 @@ unfolding unsound unsoundWas
 sound-as-before u =
     ap (λ t. not t || (leb (u .setting .ports) (u .pos) || Interrupt.unsound (u .irq)))
     (zero-together _ _ (rw (setup-refusal (u .setting)) at (tables (u .setting))))
+
+-- of a record that may be absent, too
+asked-as-before : (u : Option Mux) → asked u (λ v. unsound v) ≡ asked u (λ v. unsoundWas v)
+unfolding asked
+asked-as-before none = refl
+asked-as-before (some u) = sound-as-before u
+
+-- so every call that is no setup is refused as it was
+pub calls-as-before : (g : Given) → g .setting ≡ none → refusal g ≡ firstOf (callRowsWas g)
+unfolding refusal tableOf rowsOf callRows callRowsWas firstOf
+calls-as-before g e = rw (e, asked-as-before (g .unit))

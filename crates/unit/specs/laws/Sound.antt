@@ -5,6 +5,7 @@
 --   port-iff .. sweep-iff    refusal 0 of each other kind of call
 --   sound-with               what keeps the setting, with a position below P and a sound interrupt side, keeps soundness: the one law for every change of a record
 --   fresh-sound              what setup makes is sound; the record of zeros is not
+--   by-block                 what holds at each block size holds of any
 --   sizes                    the sizes that pass, in numbers
 --   block-inside             a port's control block lies in the memory
 -- Not here: what fits and what is sound, in specs/Sound; what a refused call leaves, in Replies.
@@ -201,11 +202,15 @@ zeros-unsound s = let h : 0 < 0 = s .position in omega arith
 
 -- ---- where a port's control block lies
 
+-- what holds at each block size holds of any
+pub by-block : (F : ℕ → Type 0) → F 8 → F 16 → F 32 → (b : ℕ) → IsBlock b → F b
+by-block F x y z b (eight e) = rw e x
+by-block F x y z b (sixteen e) = rw e y
+by-block F x y z b (thirty-two e) = rw e z
+
 -- a block has eight words at least, and thirty-two at most
 pub block-bounds : (b : ℕ) → IsBlock b → (8 ≤ b) × (b ≤ 32)
-block-bounds b (eight e) = omega arith
-block-bounds b (sixteen e) = omega arith
-block-bounds b (thirty-two e) = omega arith
+block-bounds = by-block (λ b. (8 ≤ b) × (b ≤ 32)) (omega arith) (omega arith) (omega arith)
 
 -- the sizes in numbers: at most 128 blocks of at most 32 words have at most 4,096 words, and at least one
 pub record Sizes (s : Setting) : Type 0 where
