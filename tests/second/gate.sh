@@ -28,6 +28,16 @@ play() {
     sh "$here/../run.sh" "$built/$1" <"$room/$2" >"$room/$3" && echo "$(wc -l <"$room/$3") lines printed"
 }
 
+# The caretakers' program on short texts that end in different ways.
+endings() {
+    last=$(python3 "$here/settings2.py" --last) || return 1
+    while [ "$last" -gt 0 ]; do
+        last=$((last - 1))
+        python3 "$here/settings2.py" --last "$last" "$room/short" && play settings short ended >"$room/lines" || return 1
+        python3 "$here/settings2.py" --check "$room/short" "$room/ended" --some || return 1
+    done
+}
+
 step 'second program by itself' python3 "$here/test_second.py"
 step 'fixed sessions written' python3 "$here/run_second.py" --text "$room/text" --expected "$room/expected"
 step 'proved library plays them' play compared text got
@@ -36,5 +46,6 @@ step 'wrong programs told apart' python3 "$here/mutants.py" --quiet
 step 'settings written' python3 "$here/settings2.py" --write "$room/settings"
 step 'caretakers program reads them' play settings settings told
 step 'caretakers program agrees' python3 "$here/settings2.py" --check "$room/settings" "$room/told"
+step 'caretakers program ends well' endings
 echo "$passed passed, $failed failed"
 [ "$failed" -eq 0 ]

@@ -1,21 +1,28 @@
 """Checks the answers of `settings`, the caretakers' program, against the second program's setup.
 
-    settings2.py --write FILE       writes the fixed text that is typed
-    settings2.py --check FILE GOT   compares what the program printed for that text, GOT, with what it must print
+    settings2.py --write FILE               writes the fixed text that is typed
+    settings2.py --last                     prints how many short texts there are: 9, with the numbers 0 to 8
+    settings2.py --last N FILE              writes short text N, which is there for its last line
+    settings2.py --check FILE GOT [--some]  compares what the program printed for a text, GOT, with what it must print
 
-A typed line is three decimal numbers, block size, ports and base, with spaces between, before and
-after as one likes. It is answered by `accepted`, by two lines
+A typed line is three decimal numbers, block size, ports and base, with blanks before and after as
+one likes and one or more between two numbers. A blank is a space, a tab (9) or a carriage return
+(13), all three alike. The line is answered by `accepted`, by two lines
 
     refused, N: SENTENCE
     type instead: B P A
 
-or by `please type three numbers: block size, ports, base`, where it is no such line or a number is
-2^32 or more. A last line without a newline is not answered. SENTENCE may be any text.
+or, where it is no such line or a number is 2^32 or more, by
+
+    please type three decimal numbers below 4294967296: block size, ports, base
+
+SENTENCE may be any text. A last line without a newline is answered as if it had one, unless it is
+empty or has only blanks: then it is not answered.
 
 B is the typed block size if that is 8, 16 or 32, else 32. P is the typed number of ports if that is
 1 to 128; 0 becomes 1, and more than 128 become 128. A is the largest base at or below the typed one
 that setup takes with B and P, so the base is kept where it can stay; 0 is always taken. Exit status
-0 only where all lines agree and every kind of answer was among them.
+0 only where all lines agree and, without --some, every kind of answer was among them.
 """
 
 import re
@@ -27,18 +34,19 @@ import mux2
 SEED = 1974
 MOST = 4294967295
 HIGHEST = 32767                             # the last word of memory
-PLEASE = 'please type three numbers: block size, ports, base'
+PLEASE = 'please type three decimal numbers below 4294967296: block size, ports, base'
 ADVICE = 'type instead: '
 
-# Only the digits 0 to 9 and the space: no tab, no sign, no digit of another script.
-TYPED = re.compile(' *([0-9]+) +([0-9]+) +([0-9]+) *')
+# Only the digits 0 to 9 and three blanks: no other control code, no sign, no digit of another script.
+BLANKS = ' \t\r'
+TYPED = re.compile('[ \t\r]*([0-9]+)[ \t\r]+([0-9]+)[ \t\r]+([0-9]+)[ \t\r]*')
 
 LAST, FURTHER = 'base down to the last multiple of 8b', 'base further down, as the area would cross'
 ABOVE = ', from above 32767'
 WAYS = ('base kept', LAST, LAST + ABOVE, FURTHER, FURTHER + ABOVE)
 SIZES = ('block size kept', 'block size becomes 32', 'ports kept', 'ports become 1', 'ports become 128')
 KINDS = ('accepted', 'please', *(f'refused, {code}' for code in mux2.SETUP_ROWS), *SIZES, *WAYS)
-NEVER_ASKED = 'refused, 5'                  # number 4 comes first, so a text need not reach it
+NEVER_ASKED = 'refused, 5'                  # numbers 11 and 4 come first, so a text need not reach it
 
 
 # What the program must say.
@@ -98,6 +106,12 @@ def answer(line):
     return answer_and_kinds(line)[0]
 
 
+def answered_lines(text):
+    """The typed lines that are answered: what stands after the last newline is one only if it is more than blanks."""
+    *ended, last = text.split('\n')
+    return ended + [last] if last.strip(BLANKS) else ended
+
+
 # Comparing.
 
 def shortened(line):
@@ -118,9 +132,9 @@ def bad_advice(line):
 
 def first_difference(text, got, counts):
     """What to say of the first line that differs, or None; `counts` gets the kinds of the lines before it."""
-    typed, (*printed, rest) = text.split('\n')[:-1], got.split('\n')
+    *printed, rest = got.split('\n')
     printed = iter(printed)
-    for number, line in enumerate(typed, 1):
+    for number, line in enumerate(answered_lines(text), 1):
         lines, kinds = answer_and_kinds(line)
         for want in lines:
             have = next(printed, None)
@@ -140,23 +154,37 @@ def shown(line):
     return 'nothing' if line is None else ascii(line if len(line) < 200 else line[:200] + '...')
 
 
-def check(text, got):
-    """Whether all lines agree and every kind is reached, and what to say."""
+def check(text, got, some=False):
+    """Whether all lines agree and every kind is reached, or only some need be, and what to say."""
     counts = dict.fromkeys(KINDS, 0)
     difference = first_difference(text, got, counts)
     if difference:
         return False, difference
-    said = [f'{count:9}  {kind}' for kind, count in counts.items()]
-    missing = [f'never reached: {kind}' for kind, count in counts.items() if count == 0 and kind != NEVER_ASKED]
-    agreed = f'{text.count(chr(10))} lines typed, {got.count(chr(10))} lines printed, all agree'
+    said = [f'{count:9}  {kind}' for kind, count in counts.items() if count or not some]
+    missing = [f'never reached: {kind}' for kind, count in counts.items()
+               if count == 0 and kind != NEVER_ASKED and not some]
+    agreed = f'{len(answered_lines(text))} lines typed, {got.count(chr(10))} lines printed, all agree'
     return not missing, '\n'.join(said + [agreed] + missing)
 
 
-# The fixed text.
+# The texts.
 
 WRONG_BLOCKS = (0, 1, 4, 7, 9, 15, 17, 24, 31, 33, 64, 128, 264, 65544, 2147483680, MOST)
 PORTS = (0, 1, 2, 7, 8, 9, 64, 127, 128, 129, 136, 256, 65537, MOST)
 FEW_PORTS = (0, 1, 9, 128, 129, MOST)
+
+# One text has one last line only, so each way that it may end without a newline is a text.
+SHORT_TEXTS = (
+    '',                                     # nothing typed at all
+    '   ',
+    '  \t\r',
+    '8 1 64',
+    '8 121 64',                             # refused
+    '8,1,64',                               # not three numbers
+    '8 1',                                  # not yet three
+    '8 1 64 ',
+    '8 1 64\n',                             # the newline is the last byte: nothing is left to answer
+)
 
 
 def edges(b):
@@ -262,7 +290,7 @@ class Typist:
                 yield ' '.join(words)
 
     def ill_formed_lines(self):
-        """Lines that are not three numbers, of each kind, with good numbers around the fault."""
+        """Lines that are not three numbers, of each kind, with good ones around the fault; tab and CR may be none."""
         yield from ('', ' ', '    ', '0', '8', '8 1', '8  1 ', ' 8 1', '8164', '8 1 64 0', '8 1 64 64', '8 1 64 0 0',
                     'accepted', 'eight one sixty-four', '8,1,64', '8, 1, 64', '8 1 64.', '8/1/64', '8-1-64', '- - -',
                     '0x8 1 64', '8 1 0x40', '8 1 100o', '8 1 6e1', '8 1 64.0', '8. 1 64', '8 1 1_024', '8 1 1,024',
@@ -285,27 +313,41 @@ class Typist:
                 yield words[0] + sign + words[1] + ' ' + words[2]
                 continue
             yield ' '.join(words)
-        for sign in '\t\r\0\v\f\x1a\x1c\x7f\x85\xa0\xff+-.,:;/a':     # what may pass for a space or a number
+        for sign in '\t\r\0\v\f\x1a\x1c\x7f\x85\xa0\xff+-.,:;/a':     # a blank, or what may pass for one or a number
             yield from (sign, sign + '8 1 64', '8 1 64' + sign, '8 1 64 ' + sign, '8 1' + sign + '64',
                         '8 1 ' + sign + '64', '8 1 6' + sign + '4')
         for word in ('\u0668', '\uff18', '\u00b2', '\u2003', '\ufeff', '\u00bd'):    # of other scripts
             written = word.encode().decode('latin-1')
             yield from (written + ' 1 64', '8 1 64' + written, '8 ' + written + '1 64', '8' + written + '1 64')
 
+    def blank_lines(self):
+        """Tabs and carriage returns in each place, alone and mixed with spaces, and next to what is no blank."""
+        for blank in ('\t', '\r', '\t\t', '\r\r', ' \t', '\t ', ' \r', '\r ', '\t\r', '\r\t', ' \t\r', '\r\t \t\r'):
+            yield from (blank, blank + '8 1 64', '8' + blank + '1 64', '8 1' + blank + '64', '8 1 64' + blank,
+                        blank.join(('8', '1', '64')), blank.join(('', '8', '1', '65', '')), '8 1' + blank,
+                        blank.join(('', '8', '1', '')), blank.join(('', '8', '1', '6', '4', '')))
+        for setting in ('7 0 0', '8 0 64', '8 1 32768', '8 9 960', '8 1 4294967296'):
+            yield from (setting + '\r', setting.replace(' ', '\t'))
+        for long in (255, 256, 5000):
+            yield from ('\t' * long + '8 1 64', '8 1' + '\t\r' * long + '64', '8 1 64' + '\r' * long, '\t' * long)
+        for sign in '\b\v\f\x0e\x1f!\x89\x8d':      # next to a blank by its number, or one without its top bit
+            yield from (sign + '8\t1\t64\r', '8\t1' + sign + '64\r', '8\t1\t64\r' + sign, '8\t' + sign + '\r1 64')
+
     def lines(self):
         """All the lines, mixed, so that each kind comes after each other kind."""
         lines = [*self.edge_lines(), *self.wrong_block_lines(), *self.pair_lines(), *self.random_lines(500),
-                 *self.spaced_lines(150), *self.too_big_lines(), *self.ill_formed_lines(), *self.crossing_lines()]
+                 *self.spaced_lines(150), *self.too_big_lines(), *self.ill_formed_lines(), *self.crossing_lines(),
+                 *self.blank_lines()]
         keys = [(self.random(), number) for number in range(len(lines))]
         return [lines[number] for _, number in sorted(keys)]
 
 
 def fixed_text():
-    """The text that is typed: one byte a character, the last line without a newline."""
+    """The text that is typed: one byte a character; the last line has no newline and is answered all the same."""
     return ''.join(line + '\n' for line in Typist().lines()) + '8 1 65'
 
 
-# The two orders.
+# The orders.
 
 def read(name):
     """A file's bytes, one a character, so that only a newline ends a line."""
@@ -313,12 +355,22 @@ def read(name):
         return file.read().decode('latin-1')
 
 
+def write(name, text):
+    """A file with just the text's bytes, so that nothing is put at its end."""
+    with open(name, 'wb') as file:
+        file.write(text.encode('latin-1'))
+
+
 def main():
-    if len(sys.argv) == 3 and sys.argv[1] == '--write':
-        with open(sys.argv[2], 'wb') as file:
-            file.write(fixed_text().encode('latin-1'))
-    elif len(sys.argv) == 4 and sys.argv[1] == '--check':
-        agrees, said = check(read(sys.argv[2]), read(sys.argv[3]))
+    order, *words = [word for word in sys.argv[1:] if word != '--some'] or ['']
+    if order == '--write' and len(words) == 1:
+        write(words[0], fixed_text())
+    elif order == '--last' and not words:
+        print(len(SHORT_TEXTS))
+    elif order == '--last' and len(words) == 2 and words[0] in map(str, range(len(SHORT_TEXTS))):
+        write(words[1], SHORT_TEXTS[int(words[0])])
+    elif order == '--check' and len(words) == 2:
+        agrees, said = check(read(words[0]), read(words[1]), '--some' in sys.argv)
         print(said)
         sys.exit(0 if agrees else 1)
     else:

@@ -1,10 +1,11 @@
-"""Checks the second program by document 01's settled examples and the manual's own values.
+"""Checks the second program by document 01's settled examples, K1 of document 02 and the manual's own values.
 
 It also checks that the digests are those of FORMAT.md, that a written session
 can be read and driven again, that compare.py finds a changed line and that
 settings2.py finds a wrong answer. Exit status 0 only where every check passes.
 """
 
+import re
 import sys
 import traceback
 from random import Random
@@ -236,18 +237,20 @@ def test_only_3_becomes_11():
 # The caretakers' program.
 
 def test_settings_answers():
-    please = ['please type three numbers: block size, ports, base']
-    for typed in ('8 1 64', ' 008  1 0064 ', '32 120 256', '8 8 32704', '0' * 9999 + '8 1 0'):
+    please = ['please type three decimal numbers below 4294967296: block size, ports, base']
+    for typed in ('8 1 64', ' 008  1 0064 ', '32 120 256', '8 8 32704', '0' * 9999 + '8 1 0', '8\t1\r64', '8 1 64\r',
+                  '\t8 1 64', '\r8 1 64', '\r\t 8\t\t1 \r 64 \t\r'):
         assert settings2.answer(typed) == ['accepted']
-    for typed in ('', ' ', '8 1', '8 1 64 0', '8\t1 64', '8 1 64\r', '8 1 +64', '8 1 4294967296', '8 1 \u0668',
-                  '8 1 ' + '9' * 9999, '18446744073709551624 1 64'):
+    for typed in ('', ' ', '\t', '\r', ' \t\r', '8 1', '8\t1\r', '8 1 64 0', '8 1 6\t4', '8 1\v64', '8 1 64\f',
+                  '\b8 1 64', '8 1 64\n', '\x0e8 1 64', '8\x851 64', '8 1 64\xa0', '8 1 64\0', '8 1 +64',
+                  '8 1 4294967296', '8 1 \u0668', '8 1 ' + '9' * 9999, '18446744073709551624 1 64'):
         assert settings2.answer(typed) == please
     for typed, code, advice in (
             ('7 0 0', 1, '32 1 0'), ('7 200 4294967295', 1, '32 128 28672'), ('8 0 64', 2, '8 1 64'),
             ('8 129 64', 2, '8 128 0'), ('8 8 32', 3, '8 8 0'), ('8 1 32767', 3, '8 1 32704'),
             ('8 1 32768', 11, '8 1 32704'), ('16 8 4294967168', 11, '16 8 32640'), ('8 9 32768', 11, '8 9 32640'),
             ('32 33 15360', 4, '32 33 15104'), ('32 121 256', 4, '32 121 0'), ('8 121 64', 4, '8 121 0'),
-            ('8 9 960', 4, '8 9 896'), ('16 100 2047', 3, '16 100 384')):
+            ('8 9 960', 4, '8 9 896'), ('16 100 2047', 3, '16 100 384'), ('\t8\r0\t64\r', 2, '8 1 64')):
         assert settings2.answer(typed) == [f'refused, {code}:', f'type instead: {advice}']
 
 
@@ -265,7 +268,33 @@ def test_settings_advice():
 def printed(text):
     """What a right program prints for a typed text."""
     return [line + ' a sentence: with a colon' if line.startswith('refused') else line
-            for typed in text.split('\n')[:-1] for line in settings2.answer(typed)]
+            for typed in settings2.answered_lines(text) for line in settings2.answer(typed)]
+
+
+def test_settings_lines():
+    for text, lines in (('', []), (' ', []), (' \t\r', []), ('\n', ['']), ('\n\n', ['', '']), (' \n\t', [' ']),
+                        ('\r\n\r', ['\r']), ('8 1\n', ['8 1']), ('8 1', ['8 1']), ('8 1\n8 ', ['8 1', '8 ']),
+                        ('8 1 64\r\n8 1 65\r', ['8 1 64\r', '8 1 65\r']), ('\v', ['\v']), ('\n\xa0', ['', '\xa0'])):
+        assert settings2.answered_lines(text) == lines
+
+
+def wrong_patterns():
+    """What a program may read instead, wrong about the blanks in one place alone."""
+    for place, count in enumerate('*++*'):
+        wrong = [f'[{signs}]{count}' for signs in (
+            r' ', r' \t', r' \r', r'\t\r', r' \b\t\r', r' \t\r\v', r' \t\r\f', r' \t\r\x0e', r' \x1f\t\r', r' !\t\r',
+            r' \t\r\x89', r' \t\r\x8d', r'\s', r'\0- ')]
+        wrong += [f'(?: {count}|\t{count}|\r{count})', f'[ \t]{count}\r?', '[ \t\r]?' if count == '*' else '[ \t\r]']
+        for blanks in wrong:
+            parts = [f'[ \t\r]{each}' for each in '*++*']
+            parts[place] = blanks
+            yield '([0-9]+)'.join(parts)
+
+
+def test_settings_text_tells_blanks():
+    lines = settings2.answered_lines(settings2.fixed_text())
+    for pattern in map(re.compile, wrong_patterns()):
+        assert any(bool(pattern.fullmatch(line)) != bool(settings2.TYPED.fullmatch(line)) for line in lines), pattern
 
 
 def test_settings_check():
@@ -280,7 +309,8 @@ def test_settings_check():
         return right[:at] + new + right[at + lines:]
 
     assert 2500 < text.count('\n') < 3500 and agrees(right)
-    assert {'32 33 15360', '8 121 64', '8 9 960', '16 100 2047'} <= set(text.split('\n'))
+    assert {'32 33 15360', '8 121 64', '8 9 960', '16 100 2047', '8\t1 64', '8 1 64\r', ''} <= set(text.split('\n'))
+    assert text.endswith('\n8 1 65') and right[-2:] == printed('8 1 65\n')
     advice = next(line for line in right if line.startswith('type instead: 8 '))
     for lines in (wrong('refused, 11:', ['refused, 3: a base']), wrong('refused, 3:', ['refused, 11: a base']),
                   wrong('refused, 4:', ['refused, 5: an area']), wrong('refused, 1:', ['refused, 1']),
@@ -291,19 +321,32 @@ def test_settings_check():
                   wrong('type instead: 16 100 384', ['type instead: 16 100 256']),
                   wrong('accepted', ['please']), wrong('accepted', []), wrong('accepted', ['accepted', advice]),
                   wrong('please', ['accepted']), wrong('please', []), wrong('please', [settings2.PLEASE + ' ']),
-                  right[:-1], right + ['accepted'], right + printed('8 1 65\n'), right + [''], right[1:], []):
+                  wrong('please', ['please type three numbers: block size, ports, base']),
+                  right[:-1], right[:-2], right + ['accepted'], right + [settings2.PLEASE],
+                  right + printed('8 1 65\n'), right + [''], right[1:], []):
         assert not agrees(lines)
     assert not agrees(right, end='') and not agrees(right, end='\n\n')
     assert 'told to type with 3' in settings2.check(text, '\n'.join(wrong(advice, ['type instead: 8 1 1'])))[1]
 
 
 def test_settings_kinds():
-    typed = settings2.fixed_text().split('\n')[:-1]
+    typed = settings2.answered_lines(settings2.fixed_text())
     kinds = {line: settings2.answer_and_kinds(line)[1] for line in typed}
     for missing in settings2.KINDS:
         text = ''.join(line + '\n' for line in typed if missing not in kinds[line])
         agrees, said = settings2.check(text, ''.join(line + '\n' for line in printed(text)))
         assert agrees == (missing == 'refused, 5') and (f'never reached: {missing}' in said) != agrees
+
+
+def test_settings_short_texts():
+    accepted, please = 'accepted\n', settings2.PLEASE + '\n'
+    refused = 'refused, 4: an area\ntype instead: 8 121 0\n'
+    wanted = ('', '', '', accepted, refused, please, please, accepted, accepted)
+    assert len(settings2.SHORT_TEXTS) == len(set(settings2.SHORT_TEXTS)) == len(wanted)
+    for text, lines in zip(settings2.SHORT_TEXTS, wanted):
+        assert settings2.check(text, lines, some=True)[0] and not settings2.check(text, lines)[0]
+        for wrong in {'', accepted, refused, please, lines + please, lines + accepted, lines[:-1] or '\n'} - {lines}:
+            assert not settings2.check(text, wrong, some=True)[0]
 
 
 # Errors that document 01 has seen.
