@@ -19,8 +19,9 @@ import settings2  # noqa: E402
 ENDINGS = {'.rt', '.antt', '.py', '.sh'}
 # Crates whose definitions speak of the programs and not of the multiplexer.
 PROGRAMS = {'driver', 'compared', 'watch', 'settings'}
-# The number of setup that no setting is known to give (D32).
+# The number of setup that no setting is known to give (D32), and an example of any other: what was typed, what to type instead.
 NEVER_GIVEN = 5
+EXAMPLE = re.compile(r' +(\d+ \d+ \d+) +type (\d+ \d+ \d+): (.*)')
 PAGES = ['README.md', 'docs/CLAIMS.md', 'docs/DECISIONS.md', 'docs/CHANGING.md', 'docs/CARETAKER.md']
 
 
@@ -58,18 +59,17 @@ def edits_cited():
 
 def decisions_there():
     """Decisions that a page cites and docs/DECISIONS.md has not."""
-    entries = set(re.findall(r'^\*\*(D\d+)\.', read(ROOT / 'docs/DECISIONS.md'), re.M))
+    known = set(re.findall(r'^\*\*(D\d+)\.', read(ROOT / 'docs/DECISIONS.md'), re.M))
     lost = []
     for page in [ROOT / 'README.md', *sorted((ROOT / 'docs').rglob('*.md'))]:
-        for name in sorted(set(re.findall(r'\b(D\d+)\b', read(page))) - entries):
+        for name in sorted(set(re.findall(r'\b(D\d+)\b', read(page))) - known):
             lost.append(f'{page.relative_to(ROOT)} cites {name}, which has no entry')
     return lost
 
 
 def entries():
     """The entries of docs/CARETAKER.md that have a sentence, in their order: number, sentence, the lines below."""
-    for number, sentence, rest in re.findall(r'^ {4,5}(\d+)   (.*)\n((?: {9}.*\n)+)', read(ROOT / 'docs/CARETAKER.md'), re.M):
-        yield int(number), sentence, rest.splitlines()
+    return [(int(number), sentence, rest.splitlines()) for number, sentence, rest in settings2.ENTRY.findall(read(ROOT / 'docs/CARETAKER.md'))]
 
 
 def sentences():
@@ -80,13 +80,14 @@ def sentences():
 
 def sentences_told():
     """Numbers that docs/CARETAKER.md or the caretakers' program leaves out or has in another order than setup, or with different sentences."""
-    told, said = {number: sentence for number, sentence, _ in entries()}, sentences()
-    lost = [
-        f'{name} has the numbers {list(numbers)}; setup asks {list(mux2.SETUP_ROWS)}'
-        for name, numbers in (('docs/CARETAKER.md', told), ('crates/settings/src/say.rt', said))
-        if list(numbers) != list(mux2.SETUP_ROWS)
-    ]
-    return lost + [f'docs/CARETAKER.md has for {n}: {told[n]}; the program says: {said.get(n)}' for n in told if told[n] != said.get(n)]
+    told, said = [(number, sentence) for number, sentence, _ in entries()], list(sentences().items())
+    lost = [f'setup asks {list(mux2.SETUP_ROWS)}; the page has {told}; the program says {said}'] if told != said else []
+    if [number for number, _ in told] != list(mux2.SETUP_ROWS):
+        lost.append(f'docs/CARETAKER.md has the numbers of setup in another order: {told}')
+    others = {number for numbers in mux2.REFUSALS.values() for number in numbers} - set(mux2.SETUP_ROWS)
+    rest = read(ROOT / 'docs/CARETAKER.md').partition('## The other numbers')[2]
+    listed = [int(number) for number in re.findall(r'^ {4,5}(\d+) ', rest, re.M)]
+    return lost + ([f'docs/CARETAKER.md lists {listed}; the other numbers are {sorted(others)}'] if listed != sorted(others) else [])
 
 
 def answers(typed, number, instead):
@@ -100,14 +101,15 @@ def accepts(typed):
 
 def example_right(number, line):
     """Whether a line below an entry is an example that the second program answers so; what else it offers is accepted."""
-    found = re.fullmatch(r' +(\d+ \d+ \d+) +type (\d+ \d+ \d+): (.*)', line)
+    found = EXAMPLE.fullmatch(line)
     return bool(found) and answers(found[1], number, found[2]) and all(accepts(offer) for offer in re.findall(r'\d+ \d+ \d+', found[3]))
 
 
 def examples_told():
-    """Examples of docs/CARETAKER.md that the second program answers otherwise; the last entry, which no setting gives, has none."""
+    """Examples of docs/CARETAKER.md that the second program answers otherwise; the number that no setting is known to give has none."""
     page = read(ROOT / 'docs/CARETAKER.md')
-    lost = [line for number, _, lines in entries() if number != NEVER_GIVEN for line in lines if not example_right(number, line)]
+    lost = [line for number, _, lines in entries() for line in lines if number != NEVER_GIVEN and not example_right(number, line)]
+    lost += [line for number, _, lines in entries() for line in lines if number == NEVER_GIVEN and EXAMPLE.fullmatch(line)]
     shown = re.findall(r'^ {4}(\d+ \d+ \d+)\n {4}refused, (\d+): (.*)\n {4}type instead: (.*)$', page, re.M)
     lost += [typed for typed, number, sentence, instead in shown if not answers(typed, number, instead) or sentences().get(int(number)) != sentence]
     works = re.findall(r'(\d+) (\d+) (\d+)', ''.join(re.findall(r'^Settings that work: (.*)$', page, re.M)))

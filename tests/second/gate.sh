@@ -6,6 +6,7 @@
 #   tests/second/gate.sh [FOLDER]      FOLDER has the programs `compared` and `settings`, as `rt check` builds them (default: target/bin)
 here=$(cd "$(dirname "$0")" && pwd)
 built=${1:-$here/../../target/bin}
+page=$here/../../docs/CARETAKER.md
 room=$(mktemp -d) || exit 2
 trap 'rm -rf "$room"' EXIT
 passed=0 failed=0
@@ -34,7 +35,7 @@ endings() {
     while [ "$last" -gt 0 ]; do
         last=$((last - 1))
         python3 "$here/settings2.py" --last "$last" "$room/short" && play settings short ended >"$room/lines" || return 1
-        python3 "$here/settings2.py" --check "$room/short" "$room/ended" --some || return 1
+        python3 "$here/settings2.py" --check "$room/short" "$room/ended" "$page" --some || return 1
     done
 }
 
@@ -45,7 +46,7 @@ step 'proved library agrees' python3 "$here/compare.py" "$room/text" "$room/expe
 step 'wrong programs told apart' python3 "$here/mutants.py" --quiet
 step 'settings written' python3 "$here/settings2.py" --write "$room/settings"
 step 'caretakers program reads them' play settings settings told
-step 'caretakers program agrees' python3 "$here/settings2.py" --check "$room/settings" "$room/told"
+step 'caretakers program agrees' python3 "$here/settings2.py" --check "$room/settings" "$room/told" "$page"
 step 'caretakers program ends well' endings
 echo "$passed passed, $failed failed"
 [ "$failed" -eq 0 ]

@@ -3,7 +3,8 @@
     settings2.py --write FILE               writes the fixed text that is typed
     settings2.py --last                     prints how many short texts there are: 9, with the numbers 0 to 8
     settings2.py --last N FILE              writes short text N, which is there for its last line
-    settings2.py --check FILE GOT [--some]  compares what the program printed for a text, GOT, with what it must print
+    settings2.py --check FILE GOT PAGE [--some]
+                                            compares what the program printed for a text, GOT, with what it must print
 
 A typed line is three decimal numbers, block size, ports and base, with blanks before and after as
 one likes and one or more between two numbers. A blank is a space, a tab (9) or a carriage return
@@ -16,8 +17,8 @@ or, where it is no such line or a number is 2^32 or more, by
 
     please type three decimal numbers below 4294967296: block size, ports, base
 
-SENTENCE may be any text. A last line without a newline is answered as if it had one, unless it is
-empty or has only blanks: then it is not answered.
+SENTENCE is what the caretaker's page, PAGE, has for the number. A last line without a newline is
+answered as if it had one, unless it is empty or has only blanks: then it is not answered.
 
 B is the typed block size if that is 8, 16 or 32, else 32. P is the typed number of ports if that is
 1 to 128; 0 becomes 1, and more than 128 become 128. A is the largest base at or below the typed one
@@ -36,6 +37,9 @@ MOST = 4294967295
 HIGHEST = 32767                             # the last word of memory
 PLEASE = 'please type three decimal numbers below 4294967296: block size, ports, base'
 ADVICE = 'type instead: '
+
+# An entry of the caretaker's page: its number, its sentence, the lines below.
+ENTRY = re.compile(r'^ {4,5}(\d+)   (.*)\n((?: {9}.*\n)+)', re.M)
 
 # Only the digits 0 to 9 and three blanks: no other control code, no sign, no digit of another script.
 BLANKS = ' \t\r'
@@ -102,7 +106,7 @@ def answer_and_kinds(line):
 
 
 def answer(line):
-    """The lines that answer one typed line; of a refusal, what stands up to the colon."""
+    """The lines that answer one typed line; of a refusal, without its sentence."""
     return answer_and_kinds(line)[0]
 
 
@@ -114,9 +118,15 @@ def answered_lines(text):
 
 # Comparing.
 
-def shortened(line):
-    """A printed line without its sentence, if it is a refusal."""
-    return line[:line.index(':') + 1] if line.startswith('refused, ') and ':' in line else line
+def sentences(page):
+    """The sentence that the caretaker's page has for each number."""
+    return {number: sentence for number, sentence, _ in ENTRY.findall(page)}
+
+
+def full(line, told):
+    """An expected line with its sentence, if it is a refusal."""
+    number = re.fullmatch('refused, ([0-9]+):', line)
+    return f'{line} {told.get(number[1])}' if number else line
 
 
 def bad_advice(line):
@@ -130,16 +140,16 @@ def bad_advice(line):
     return f'setup refuses what one is told to type with {code}' if code else None
 
 
-def first_difference(text, got, counts):
+def first_difference(text, got, counts, told):
     """What to say of the first line that differs, or None; `counts` gets the kinds of the lines before it."""
     *printed, rest = got.split('\n')
     printed = iter(printed)
     for number, line in enumerate(answered_lines(text), 1):
         lines, kinds = answer_and_kinds(line)
-        for want in lines:
+        for want in [full(line, told) for line in lines]:
             have = next(printed, None)
             fault = bad_advice(have)
-            if fault or have is None or shortened(have) != want:
+            if fault or have != want:
                 return (f'line {number}: {shown(line)}\nexpected {want}\n'
                         f'got      {shown(have)}' + (f'\n{fault}' if fault else ''))
         for kind in kinds:
@@ -154,10 +164,10 @@ def shown(line):
     return 'nothing' if line is None else ascii(line if len(line) < 200 else line[:200] + '...')
 
 
-def check(text, got, some=False):
+def check(text, got, told, some=False):
     """Whether all lines agree and every kind is reached, or only some need be, and what to say."""
     counts = dict.fromkeys(KINDS, 0)
-    difference = first_difference(text, got, counts)
+    difference = first_difference(text, got, counts, told)
     if difference:
         return False, difference
     said = [f'{count:9}  {kind}' for kind, count in counts.items() if count or not some]
@@ -369,8 +379,8 @@ def main():
         print(len(SHORT_TEXTS))
     elif order == '--last' and len(words) == 2 and words[0] in map(str, range(len(SHORT_TEXTS))):
         write(words[1], SHORT_TEXTS[int(words[0])])
-    elif order == '--check' and len(words) == 2:
-        agrees, said = check(read(words[0]), read(words[1]), '--some' in sys.argv)
+    elif order == '--check' and len(words) == 3:
+        agrees, said = check(read(words[0]), read(words[1]), sentences(read(words[2])), '--some' in sys.argv)
         print(said)
         sys.exit(0 if agrees else 1)
     else:

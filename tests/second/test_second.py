@@ -265,10 +265,20 @@ def test_settings_advice():
     assert ways == list(settings2.WAYS)
 
 
+# A page with a sentence for each number, one of them with a colon.
+TOLD = settings2.sentences('\n'.join(f'     {n}   sentence {n}: its own\n         an example\n' for n in mux2.SETUP_ROWS))
+
+
 def printed(text):
     """What a right program prints for a typed text."""
-    return [line + ' a sentence: with a colon' if line.startswith('refused') else line
-            for typed in settings2.answered_lines(text) for line in settings2.answer(typed)]
+    return [settings2.full(line, TOLD) for typed in settings2.answered_lines(text) for line in settings2.answer(typed)]
+
+
+def test_settings_sentences():
+    assert TOLD == {str(n): f'sentence {n}: its own' for n in mux2.SETUP_ROWS}
+    assert settings2.full('refused, 11:', TOLD) == 'refused, 11: sentence 11: its own'
+    for line in ('accepted', settings2.PLEASE, 'type instead: 8 1 64'):
+        assert settings2.full(line, TOLD) == line
 
 
 def test_settings_lines():
@@ -302,7 +312,7 @@ def test_settings_check():
     right = printed(text)
 
     def agrees(lines, end='\n'):
-        return settings2.check(text, '\n'.join(lines) + end)[0]
+        return settings2.check(text, '\n'.join(lines) + end, TOLD)[0]
 
     def wrong(old, new, lines=1):
         at = next(number for number, line in enumerate(right) if line.startswith(old))
@@ -312,9 +322,10 @@ def test_settings_check():
     assert {'32 33 15360', '8 121 64', '8 9 960', '16 100 2047', '8\t1 64', '8 1 64\r', ''} <= set(text.split('\n'))
     assert text.endswith('\n8 1 65') and right[-2:] == printed('8 1 65\n')
     advice = next(line for line in right if line.startswith('type instead: 8 '))
-    for lines in (wrong('refused, 11:', ['refused, 3: a base']), wrong('refused, 3:', ['refused, 11: a base']),
-                  wrong('refused, 4:', ['refused, 5: an area']), wrong('refused, 1:', ['refused, 1']),
-                  wrong('refused, 2:', []), wrong('refused, 2:', ['refused, 2: ports'] * 2),
+    for lines in (wrong('refused, 11:', printed('8 1 1\n')[:1]), wrong('refused, 3:', printed('8 1 32768\n')[:1]),
+                  wrong('refused, 11:', ['refused, 11: ' + TOLD['3']]), wrong('refused, 3:', ['refused, 3: ' + TOLD['11']]),
+                  wrong('refused, 4:', ['refused, 5: ' + TOLD['5']]), wrong('refused, 1:', ['refused, 1']),
+                  wrong('refused, 1:', ['refused, 1: ']), wrong('refused, 2:', []), wrong('refused, 2:', printed('8 0 64\n')[:1] * 2),
                   wrong(advice, ['type instead: 8 1 32767']), wrong(advice, ['type instead: 16 1 0']),
                   wrong(advice, [advice.replace('8', '08', 1)]), wrong(advice, []), wrong(advice, [advice] * 2),
                   wrong('type instead: 32 33 15104', ['type instead: 32 33 12288']),
@@ -326,7 +337,7 @@ def test_settings_check():
                   right + printed('8 1 65\n'), right + [''], right[1:], []):
         assert not agrees(lines)
     assert not agrees(right, end='') and not agrees(right, end='\n\n')
-    assert 'told to type with 3' in settings2.check(text, '\n'.join(wrong(advice, ['type instead: 8 1 1'])))[1]
+    assert 'told to type with 3' in settings2.check(text, '\n'.join(wrong(advice, ['type instead: 8 1 1'])), TOLD)[1]
 
 
 def test_settings_kinds():
@@ -334,19 +345,19 @@ def test_settings_kinds():
     kinds = {line: settings2.answer_and_kinds(line)[1] for line in typed}
     for missing in settings2.KINDS:
         text = ''.join(line + '\n' for line in typed if missing not in kinds[line])
-        agrees, said = settings2.check(text, ''.join(line + '\n' for line in printed(text)))
+        agrees, said = settings2.check(text, ''.join(line + '\n' for line in printed(text)), TOLD)
         assert agrees == (missing == 'refused, 5') and (f'never reached: {missing}' in said) != agrees
 
 
 def test_settings_short_texts():
     accepted, please = 'accepted\n', settings2.PLEASE + '\n'
-    refused = 'refused, 4: an area\ntype instead: 8 121 0\n'
+    refused = f'refused, 4: {TOLD["4"]}\ntype instead: 8 121 0\n'
     wanted = ('', '', '', accepted, refused, please, please, accepted, accepted)
     assert len(settings2.SHORT_TEXTS) == len(set(settings2.SHORT_TEXTS)) == len(wanted)
     for text, lines in zip(settings2.SHORT_TEXTS, wanted):
-        assert settings2.check(text, lines, some=True)[0] and not settings2.check(text, lines)[0]
+        assert settings2.check(text, lines, TOLD, some=True)[0] and not settings2.check(text, lines, TOLD)[0]
         for wrong in {'', accepted, refused, please, lines + please, lines + accepted, lines[:-1] or '\n'} - {lines}:
-            assert not settings2.check(text, wrong, some=True)[0]
+            assert not settings2.check(text, wrong, TOLD, some=True)[0]
 
 
 # Errors that document 01 has seen.

@@ -1,4 +1,4 @@
--- The settled examples of document 01 that are marked *, values of the 1974 manual, and edges that a request names, stated of the definitions.
+-- The settled examples of document 01 that are marked *, values of the 1974 manual, and the edges of a request, stated of the definitions.
 --   Starred   the examples of document 01, in its order
 --   Manual    001: section 6 and appendix B, as docs/DECISIONS.md makes them
 --   Bases     document 02, K1: where the two numbers of a wrong base begin and end

@@ -5,7 +5,7 @@
 --   orderBy, order                    any order by its numbers, 26 among them; the order of the line that has been read
 --   takeByte, played                  one byte of the text, and all of it: a fold
 --   shut                              the end of the text
---   Turned, Driven                    what is known where the text comes from outside
+--   Driven                            what is known where the text comes from outside
 -- Not here: the call that a line asks for, in Orders; what is printed, in Said.
 -- Assumes nothing.
 use mathlib.Core.Path.{_≡_}
@@ -98,11 +98,6 @@ played k text = foldl takeByte k text
 -- the text has ended: the desk is closed, and all else stays
 abbrev pub shut : Kept → Kept
 shut k = kept (closed (k .desk)) (k .memory) (k .list)
-
--- one read from outside: some bytes were taken, or the text has ended
-pub data Turned (k j : Kept) : Type 0 where
-  read : (text : List ℕ) → j ≡ played k text → Turned k j
-  ended : j ≡ shut k → Turned k j
 
 -- a whole run: some text was taken from the start of a session on, and this is the memory and the list that it leaves
 pub record Driven (m xs m′ xs′ : List ℕ) : Type 0 where

@@ -38,11 +38,12 @@ ghost use Rattle.ground.specs.Choose.{Below};
 ghost use Rattle.unit.specs.Reply.{outcome};
 ghost use Rattle.unit.specs.Setup.{setup};
 ghost use Rattle.driver.specs.Digest.{digest};
+ghost use Rattle.driver.specs.Text.{Turned};
 ghost use Rattle.driver.specs.Printed.{nothing};
 ghost use Rattle.compared.specs.Orders.{settingOf, signalOf, orderOf, actOf, callOf};
 ghost use Rattle.compared.specs.Desk.{kept, newDesk, withUnit, withWords, withPlaces, withLine, closed};
 ghost use Rattle.compared.specs.Said.{saying, answerSaid, toldOf, lookedOf, unitSaid, wholeSaid, speedSaid};
-ghost use Rattle.compared.specs.Session.{calledLent, standing, unitOrder, deskOrder, hostOrder, endOrder, order, takeByte, played, Turned, Driven};
+ghost use Rattle.compared.specs.Session.{calledLent, standing, unitOrder, deskOrder, hostOrder, endOrder, order, takeByte, played, shut, Driven};
 
 // What the driver keeps beside the memory and the list: whether the text goes on, the line being read, the unit, how many words and places are lent.
 struct Desk {
@@ -383,7 +384,7 @@ fn take(d: Desk, text: &[u8], mem: &mut [u16], list: &mut [u16]) -> Desk
 
 // Reads once and takes what came. Keeping the loop out of it lets the buffer be its own.
 fn turn(d: Desk, mem: &mut [u16], list: &mut [u16]) -> Desk
-    ensures { λ r. ⌜ Turned (kept d (now (mem .entry)) (now (list .entry))) (kept r (now (mem .exit)) (now (list .exit))) ⌝ }
+    ensures { λ r. ⌜ Turned played shut (kept d (now (mem .entry)) (now (list .entry))) (kept r (now (mem .exit)) (now (list .exit))) ⌝ }
 {
     let mut buf = io::large_buffer();
     let got = libc::read(0, &mut buf);

@@ -1,7 +1,7 @@
 // The line of a session's text, read byte by byte.
 ghost use mathlib.Core.Path.{_≡_};
 ghost use Prim.Native.Nat.{_<_};
-ghost use Rattle.driver.specs.Text.{blank, isDigit, extended, ended, typed};
+ghost use Rattle.driver.specs.Text.{blank, isDigit, appended, extended, ended, typed};
 
 // The numbers of the line that have ended, how many they are, and the number that is being read.
 pub struct Line {
@@ -31,13 +31,19 @@ pub fn is_digit(b: u8) -> bool
     47 < b
 }
 
+// A number with one more digit.
+pub fn appended(x: u32, b: u8) -> u64
+    ensures { λ r. ⌜ r ≡ appended x b ⌝ }
+{
+    x as u64 * 10 + (b % 16) as u64
+}
+
 // The line with one more digit of its number; a number is below 2^32.
 fn extended(l: Line, b: u8) -> Line
     ensures { λ r. ⌜ r ≡ extended l b ⌝ }
 {
-    let digit = (b % 16) as u64;
     let mut r = l;
-    r.number = ((l.number as u64 * 10 + digit) % 4294967296) as u32;
+    r.number = (appended(l.number, b) % 4294967296) as u32;
     r
 }
 

@@ -1,9 +1,9 @@
 -- What a caretaker is answered (document 02, K1; D48).
 --   answerTo         the answer to a line
---   taken            one byte of what is typed: at the end of a line it is answered, and the next begins
---   readOn, shut, Turned   what is kept between two reads: some bytes were taken, or there is no more to read
+--   taken            the line after one byte of what is typed: the end of a line begins the next
+--   readOn, shut     what is kept after some bytes, and where there is no more to read
 --   Heard            the line at the end: what some text leaves of a blank one
--- Not here: the sentences, which the stored output holds; what follows, in laws/.
+-- Not here: the sentences, which the stored output and the caretaker's page hold; one read from outside, in Text of the crate driver; what follows, in laws/.
 -- Assumes nothing.
 use mathlib.Core.Path.{_≡_}
 use mathlib.Core.Bool.{false}
@@ -22,7 +22,7 @@ use Rattle.settings.specs.Advice.{advised}
 abbrev pub answerTo : Line → Answer
 answerTo t = record { whole = whole t; code = refusal (ofSetup (settingOf t)); instead = advised (settingOf t) }
 
--- the line after one byte of what is typed
+-- the line after one byte of what is typed: the end of a line begins the next
 unfoldable pub taken : Line → ℕ → Line
 taken t b = pick (eqb b 10) blank (typed t b)
 
@@ -33,11 +33,6 @@ readOn r text = record { going = r .going; line = foldl taken (r .line) text }
 -- and where there is no more to read
 abbrev pub shut : Reader → Reader
 shut r = record { going = false; line = r .line }
-
--- one read from outside: some bytes were taken, or there is no more to read
-pub data Turned (r q : Reader) : Type 0 where
-  read : (text : List ℕ) → q ≡ readOn r text → Turned r q
-  ended : q ≡ shut r → Turned r q
 
 -- the line at the end: some text was taken from a blank line on, and this is what it leaves
 pub record Heard (l : Line) : Type 0 where

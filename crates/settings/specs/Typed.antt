@@ -6,14 +6,14 @@
 --   typed                 the line with one more byte
 --   started, whole        anything but spaces is on the line; it is three numbers and nothing else
 --   settingOf             the setting that it asks for
--- Not here: a digit, in Text of the crate driver; what setup says of the setting, in Answer.
+-- Not here: a digit and a number with one more, in Text of the crate driver; what setup says of the setting, in Answer.
 -- Assumes nothing.
 use mathlib.Core.Bool.{Bool, true, false, not, _&&_, _||_}
-use Prim.Native.Nat.{ℕ, _+_, _*_, _%_}
+use Prim.Native.Nat.{ℕ, _+_, _%_}
 use lib.Dec.{eqb, ltb}
 use Rattle.ground.specs.Choose.{pick}
 use Rattle.unit.specs.declared.mux.Setting.{Setting}
-use Rattle.driver.specs.Text.{isDigit}
+use Rattle.driver.specs.Text.{isDigit, appended}
 use Rattle.settings.specs.declared.typed.Line.{Line}
 
 -- a line of which nothing is read yet
@@ -22,26 +22,31 @@ blank = record { block = 0; ports = 0; base = 0; count = 0; inside = false; wron
 
 -- a number begins with a digit, and those before it move up; a fourth is wrong
 unfoldable pub begun : Line → ℕ → Line
-begun t digit =
-    pick (ltb (t .count) 3)
-    (record { block = t .ports; ports = t .base; base = digit; count = t .count + 1; inside = true; wrong = t .wrong })
-    (record { block = t .ports; ports = t .base; base = digit; count = t .count; inside = true; wrong = true })
+begun t b =
+    record {
+      block = t .ports;
+      ports = t .base;
+      base = b % 16;
+      count = pick (ltb (t .count) 3) (t .count + 1) (t .count);
+      inside = true;
+      wrong = not (ltb (t .count) 3) || t .wrong;
+    }
 
 -- the number has one more digit; from 2^32 on it is wrong
 unfoldable pub extended : Line → ℕ → Line
-extended t digit =
+extended t b =
     record {
       block = t .block;
       ports = t .ports;
-      base = (t .base * 10 + digit) % 4294967296;
+      base = appended (t .base) b % 4294967296;
       count = t .count;
       inside = t .inside;
-      wrong = t .wrong || ltb 4294967295 (t .base * 10 + digit);
+      wrong = t .wrong || ltb 4294967295 (appended (t .base) b);
     }
 
 -- a digit, of a number that goes on or of a new one
 unfoldable pub digitTyped : Line → ℕ → Line
-digitTyped t b = pick (t .inside) (extended t (b % 16)) (begun t (b % 16))
+digitTyped t b = pick (t .inside) (extended t b) (begun t b)
 
 -- a space, a tab, or the carriage return that some systems put at the end of a line
 unfoldable pub isSpace : ℕ → Bool

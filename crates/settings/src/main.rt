@@ -11,7 +11,8 @@ use crate::typed::started;
 use crate::typed::typed;
 ghost use mathlib.Core.Path.{_≡_};
 ghost use mathlib.Core.List.{foldl};
-ghost use Rattle.settings.specs.Answer.{taken, Turned, Heard};
+ghost use Rattle.driver.specs.Text.{Turned};
+ghost use Rattle.settings.specs.Answer.{taken, readOn, shut, Heard};
 
 // What is kept between two reads: whether there is more to read, and the line so far.
 struct Reader {
@@ -45,7 +46,7 @@ fn take(t: Line, text: &[u8]) -> Line
 
 // Reads once and takes what came. Keeping the loop out of it lets the buffer be its own.
 fn turn(r: Reader) -> Reader
-    ensures { λ q. ⌜ Turned r q ⌝ }
+    ensures { λ q. ⌜ Turned readOn shut r q ⌝ }
 {
     let mut q = r;
     let mut buf = io::buffer();

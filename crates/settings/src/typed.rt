@@ -1,11 +1,11 @@
 // The line that a caretaker types: three decimal numbers with spaces between them, read byte by byte.
+use driver::read::appended;
 use driver::read::is_digit;
 use unit::mux::Setting;
 ghost use mathlib.Core.Path.{_≡_};
-ghost use Prim.Native.Nat.{_<_};
 ghost use Rattle.settings.specs.Typed.{blank, begun, extended, digitTyped, isSpace, spaced, typed, started, whole, settingOf};
 
-// What is read of a line so far: its last three numbers, how many it has, whether the last of them may go on, and whether anything on it is wrong.
+// What is read of a line so far: its last three numbers, how many it has up to three, whether the last may go on, and whether anything on it is wrong.
 pub struct Line {
     pub block: u32,
     pub ports: u32,
@@ -30,13 +30,13 @@ pub fn blank() -> Line
 }
 
 // A number begins with a digit, and those before it move up; a fourth is wrong.
-fn begun(t: Line, digit: u32) -> Line
-    ensures { λ r. ⌜ r ≡ begun t digit ⌝ }
+fn begun(t: Line, b: u8) -> Line
+    ensures { λ r. ⌜ r ≡ begun t b ⌝ }
 {
     let mut r = t;
     r.block = t.ports;
     r.ports = t.base;
-    r.base = digit;
+    r.base = (b % 16) as u32;
     r.inside = true;
     if t.count < 3 {
         r.count = t.count + 1;
@@ -47,11 +47,10 @@ fn begun(t: Line, digit: u32) -> Line
 }
 
 // The number has one more digit; from 2^32 on it is wrong.
-fn extended(t: Line, digit: u32) -> Line
-    requires { ⌜ digit < 16 ⌝ }
-    ensures { λ r. ⌜ r ≡ extended t digit ⌝ }
+fn extended(t: Line, b: u8) -> Line
+    ensures { λ r. ⌜ r ≡ extended t b ⌝ }
 {
-    let number = t.base as u64 * 10 + digit as u64;
+    let number = appended(t.base, b);
     let mut r = t;
     r.base = (number % 4294967296) as u32;
     r.wrong = t.wrong | (4294967295 < number);
@@ -62,11 +61,10 @@ fn extended(t: Line, digit: u32) -> Line
 fn digit_typed(t: Line, b: u8) -> Line
     ensures { λ r. ⌜ r ≡ digitTyped t b ⌝ }
 {
-    let digit = (b % 16) as u32;
     if t.inside {
-        return extended(t, digit);
+        return extended(t, b);
     }
-    begun(t, digit)
+    begun(t, b)
 }
 
 // Whether the byte may stand between two numbers: a space, a tab, or the carriage return that some systems put at the end of a line.

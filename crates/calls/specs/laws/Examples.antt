@@ -1,6 +1,6 @@
 -- The worked examples hold: each is computed.
 --   everything        every definition that a step of the unit computes with, named once
---   starred, manual, bases   the examples of document 01, those of the 1974 manual, and those of document 02
+--   starred, manual, bases   the examples of document 01, those of the 1974 manual, and the edges of K1
 -- Not here: what the examples are, in specs/Examples.
 -- Assumes nothing.
 use mathlib.Core.Path.{refl}

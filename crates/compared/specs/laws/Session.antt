@@ -9,10 +9,10 @@ use mathlib.Core.List.{List, [], _++_, foldl-append}
 use Prim.Native.Nat.{ℕ}
 use borrow.Author.Tests.{eq-eqb}
 use Rattle.ground.specs.Choose.{pick}
-use Rattle.driver.specs.Text.{blank, typed}
+use Rattle.driver.specs.Text.{blank, typed, Turned, came, silent}
 use Rattle.compared.specs.declared.Desk.{Desk}
 use Rattle.compared.specs.Desk.{Kept, kept, newDesk, withLine}
-use Rattle.compared.specs.Session.{order, lined, takeByte, played, shut, Turned, read, ended, Driven}
+use Rattle.compared.specs.Session.{order, lined, takeByte, played, shut, Driven}
 
 -- a newline: the order of the line with it typed, and a blank line after
 pub carried-out : (k : Kept) (b : ℕ) (e r : Desk) (m xs : List ℕ) → b ≡ 10 → e ≡ withLine (k .desk) (typed (k .desk .line) b) → kept r m xs ≡ order (kept e (k .memory) (k .list)) → kept (withLine r blank) m xs ≡ takeByte k b
@@ -29,10 +29,10 @@ pub reached-none : (m xs : List ℕ) (d : Desk) → d ≡ newDesk → Reached (k
 reached-none m xs d e = on [] (ap (λ (f : Desk). kept f m xs) e)
 
 -- one read more, of a desk that goes on
-pub reached-on : {k j i : Kept} → j .desk .going ≡ true → Reached k j → Turned j i → Reached k i
-reached-on {k} g (on text e) (read more f) =
+pub reached-on : {k j i : Kept} → j .desk .going ≡ true → Reached k j → Turned played shut j i → Reached k i
+reached-on {k} g (on text e) (came more f) =
     on (text ++ more) (f ∙ ap (λ (x : Kept). played x more) e ∙ sym (foldl-append takeByte k text more))
-reached-on {k} g (on text e) (ended f) = over text (f ∙ ap (λ (x : Kept). shut x) e)
+reached-on {k} g (on text e) (silent f) = over text (f ∙ ap (λ (x : Kept). shut x) e)
 reached-on {k} g (over text e) t = absurd (true≢false (sym g ∙ ap (λ (x : Kept). x .desk .going) e))
 
 -- what a run leaves

@@ -1,9 +1,9 @@
 -- What to type instead of a setting that setup refuses.
---   sized               the mended sizes pass
---   block-kept, ports-kept   a size that passes is kept, whatever the other is
---   advised-taken       setup takes what is advised
---   advised-last        no higher base at or below the one typed would do
---   advised-kept        what setup takes is advised as it stands
+--   sized                          the mended sizes pass
+--   advised-taken                  setup takes what is advised
+--   advised-below, advised-last    its base is at or below the one typed, and no higher one there would do
+--   advised-block, advised-ports   a size that passes is kept, whatever else is wrong
+--   advised-kept                   what setup takes is advised as it stands
 -- Not here: what is advised, in specs/Advice.
 -- Assumes nothing.
 use mathlib.Core.Path.{_≡_, refl, ap, _∙_}
@@ -33,7 +33,7 @@ block-fits b = go (eqb b 8) (eqb b 16)
     go false false = thirty-two refl
 
 -- and a block size is kept
-pub block-kept : (b : ℕ) → IsBlock b → blockMended b ≡ b
+block-kept : (b : ℕ) → IsBlock b → blockMended b ≡ b
 unfolding blockMended pick
 block-kept = by-block (λ b. blockMended b ≡ b) refl refl refl
 
@@ -55,7 +55,7 @@ sized s =
     record { block = block-fits (s .block); some-port = p .0; few-ports = p .1 }
 
 -- a number of ports that passes is kept
-pub ports-kept : (n : ℕ) → 0 < n → n ≤ 128 → portsMended n ≡ n
+ports-kept : (n : ℕ) → 0 < n → n ≤ 128 → portsMended n ≡ n
 unfolding portsMended pick
 ports-kept n p q = let z : n ≡ 0 → ⊥ = λ e. omega (arith, e) in rw (ne-eqb n 0 z, le-ltb 128 n q)
 
@@ -201,6 +201,15 @@ advised-below s = based s .below
 pub advised-last : (s : Setting) (x : ℕ) → x ≤ s .base → refusal (ofSetup (at (advised s) x)) ≡ 0 → x ≤ advised s .base
 unfolding advised
 advised-last s x h e = let f = setup-iff (at (advised s) x) .0 e in based s .last x h (f .base, f .area)
+
+-- a size that passes is kept, whatever else is wrong
+pub advised-block : (s : Setting) → IsBlock (s .block) → advised s .block ≡ s .block
+unfolding advised sizesMended
+advised-block s i = block-kept (s .block) i
+
+pub advised-ports : (s : Setting) → 0 < s .ports → s .ports ≤ 128 → advised s .ports ≡ s .ports
+unfolding advised sizesMended
+advised-ports s p q = ports-kept (s .ports) p q
 
 -- what setup takes is advised as it stands
 pub advised-kept : (s : Setting) → refusal (ofSetup s) ≡ 0 → advised s ≡ s

@@ -1,5 +1,6 @@
 -- What a line asks for.
---   line-read               a line of three numbers below 2^32, a space between them, is answered by what setup says of exactly those, whatever was typed on the lines before
+--   line-read               a line of three numbers below 2^32, a space between them, is answered by what setup says of exactly those
+--   line-anew               what was typed on the lines before leaves no trace
 --   heard-none, heard-on    the line that is left, from one read to the next
 -- Not here: how a line is read, in specs/Typed; a number's digits, in Printed of the crate driver.
 -- Assumes nothing.
@@ -15,14 +16,14 @@ use borrow.Author.Tests.{ne-eqb, lt-ltb, le-ltb}
 use Rattle.ground.specs.Choose.{pick}
 use Rattle.unit.specs.declared.mux.Setting.{Setting}
 use Rattle.unit.specs.Refusals.{refusal, ofSetup}
-use Rattle.driver.specs.Text.{isDigit}
+use Rattle.driver.specs.Text.{isDigit, Turned, came, silent}
 use Rattle.driver.specs.Printed.{numeral, decimal}
 use Rattle.settings.specs.declared.typed.Line.{Line}
 use Rattle.settings.specs.declared.say.Answer.{Answer}
 use Rattle.settings.specs.declared.Reader.{Reader}
 use Rattle.settings.specs.Typed.{blank, begun, extended, digitTyped, isSpace, spaced, typed}
 use Rattle.settings.specs.Advice.{advised}
-use Rattle.settings.specs.Answer.{answerTo, taken, Turned, read, ended, Heard}
+use Rattle.settings.specs.Answer.{answerTo, taken, readOn, shut, Heard}
 
 -- the line with one more number
 abbrev pub and : Line → ℕ → Line
@@ -99,10 +100,14 @@ three b n a h g f =
     number-then b blank _ h refl (omega arith) ∙ space blank b n _ g (omega arith) refl ∙
     ap (λ (ys : List ℕ). foldl taken (and (and blank b) n) (32 ∷ ys)) (sym (append-nil (decimal a))) ∙ space (and blank b) n a [] f (omega arith) refl
 
--- after whatever was typed before, up to the end of a line, it is answered by what setup says of exactly those
-pub line-read : (t : Line) (text : List ℕ) (b n a : ℕ) → b < 4294967296 → n < 4294967296 → a < 4294967296 → answerTo (foldl taken t (text ++ (10 ∷ spelled b n a))) ≡ told (record { block = b; ports = n; base = a })
+-- so it is answered by what setup says of exactly those
+pub line-read : (b n a : ℕ) → b < 4294967296 → n < 4294967296 → a < 4294967296 → answerTo (foldl taken blank (spelled b n a)) ≡ told (record { block = b; ports = n; base = a })
+line-read b n a h g f = ap answerTo (three b n a h g f)
+
+-- and what was typed before the end of a line leaves no trace on the next
+pub line-anew : (t : Line) (text rest : List ℕ) → foldl taken t (text ++ (10 ∷ rest)) ≡ foldl taken blank rest
 unfolding taken pick
-line-read t text b n a h g f = ap answerTo (foldl-append taken t text (10 ∷ spelled b n a) ∙ three b n a h g f)
+line-anew t text rest = foldl-append taken t text (10 ∷ rest)
 
 -- ---- what is read from outside
 
@@ -111,10 +116,10 @@ pub heard-none : Heard blank
 heard-none = record { text = []; line = refl }
 
 -- one more read
-pub heard-on : (r q : Reader) → Heard (r .line) → Turned r q → Heard (q .line)
-heard-on r q h (read text e) =
+pub heard-on : (r q : Reader) → Heard (r .line) → Turned readOn shut r q → Heard (q .line)
+heard-on r q h (came text e) =
     record {
       text = h .text ++ text;
       line = ap (λ (p : Reader). p .line) e ∙ ap (λ (l : Line). foldl taken l text) (h .line) ∙ sym (foldl-append taken blank (h .text) text);
     }
-heard-on r q h (ended e) = record { text = h .text; line = ap (λ (p : Reader). p .line) e ∙ h .line }
+heard-on r q h (silent e) = record { text = h .text; line = ap (λ (p : Reader). p .line) e ∙ h .line }

@@ -7,15 +7,14 @@
 -- Not here: the table itself, in specs/Refusals; the law for every row, in Refusals.
 -- Assumes nothing.
 use mathlib.Core.Path.{_≡_, refl, sym, ap, _∙_}
-use mathlib.Core.Bool.{Bool, true, false, not, _||_}
+use mathlib.Core.Bool.{Bool, true, false, true≢false, not, _||_}
 use mathlib.Core.List.{List, [], _∷_, _++_}
 use mathlib.Core.Logic.{_↔_}
 use mathlib.Core.Option.{Option, some, none}
-use Prim.Native.Nat.{ℕ, _*_, _%_, _<_}
+use Prim.Native.Nat.{ℕ, _*_, _%_, _<_, _≤_}
 use native.Mathlib.Omega.{arith}
 use lib.Dec.{eqb, leb, ltb}
 use lib.ListN.{drop}
-use borrow.Author.Tests.{ltb-true, lt-ltb, eqb-false, ne-eqb, not-true}
 use Rattle.ground.specs.Choose.{pick, asked, Row, row, firstOf}
 use Rattle.ground.specs.laws.Rows.{first-zero, never, first-at}
 use Rattle.interrupt.specs.Interrupt as Interrupt
@@ -28,7 +27,7 @@ use Rattle.unit.specs.Refusals.{MISALIGNED, TOO-HIGH, badBlock, badPorts
 use Rattle.unit.specs.Setup.{setup}
 use Rattle.unit.specs.Sound.{SizeFits}
 use Rattle.unit.specs.laws.Refusals.{setup-refusal}
-use Rattle.unit.specs.laws.Sound.{good-base, size-fits}
+use Rattle.unit.specs.laws.Sound.{good-base, low-base, size-fits}
 
 -- ---- the two numbers, each in numbers
 
@@ -38,15 +37,16 @@ pub record OnlyHigh (s : Setting) : Type 0 where
   pub aligned : s .base % (8 * s .block) ≡ 0
   pub high : 32767 < s .base
 
--- row 3 applies to a base that is no multiple of 8b, and to no other
-off-base : (b a : ℕ) → (misaligned b a ≡ true) ↔ (a % (8 * b) ≡ 0 → ⊥)
-unfolding misaligned
-off-base b a = (λ e. eqb-false _ _ (not-true _ e), λ h. ap not (ne-eqb _ _ h))
+-- a test is true exactly where what it says when false does not hold
+applies : (t : Bool) (P : Type 0) → (t ≡ false) ↔ P → (t ≡ true) ↔ (P → ⊥)
+applies true P h = (λ _ p. true≢false (h .1 p), λ _. refl)
+applies false P h = (λ e _. true≢false (sym e), λ n. absurd (n (h .0 refl)))
 
 -- row 11 applies to a base above 32767, and to no other
 high-base : (a : ℕ) → (tooHigh a ≡ true) ↔ (32767 < a)
-unfolding tooHigh
-high-base a = (λ e. ltb-true 32767 a e, λ h. lt-ltb 32767 a h)
+high-base a =
+    let h = applies (tooHigh a) (a ≤ 32767) (low-base a) in
+    (λ e. let n = h .0 e in omega arith, λ l. h .1 (λ g. omega arith))
 
 -- setup is refused with 3 exactly where its sizes pass and the base is no multiple of 8b
 pub misaligned-iff : (s : Setting) → (refusal (ofSetup s) ≡ MISALIGNED) ↔ (SizeFits s × (s .base % (8 * s .block) ≡ 0 → ⊥))
@@ -54,8 +54,8 @@ unfolding settingRows sizeRows baseRows areaRows
 misaligned-iff s =
     let z = first-zero (sizeRows s) refl in
     let l = first-at (sizeRows s) (row MISALIGNED (misaligned (s .block) (s .base))) (row TOO-HIGH (tooHigh (s .base)) ∷ areaRows s) refl refl in (
-      λ e. let p = l .0 (sym (setup-refusal s) ∙ e) in (size-fits s .0 (z .1 (p .0)), off-base _ _ .0 (p .1)),
-      λ h. setup-refusal s ∙ l .1 (z .0 (size-fits s .1 (h .0)), off-base _ _ .1 (h .1)),
+      λ e. let p = l .0 (sym (setup-refusal s) ∙ e) in (size-fits s .0 (z .1 (p .0)), applies _ _ (good-base _ _) .0 (p .1)),
+      λ h. setup-refusal s ∙ l .1 (z .0 (size-fits s .1 (h .0)), applies _ _ (good-base _ _) .1 (h .1)),
     )
 
 -- and with 11 exactly where its sizes pass, and the base is a multiple of 8b and above 32767

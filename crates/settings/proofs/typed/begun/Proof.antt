@@ -15,4 +15,4 @@ unfolding begun pick
 returns-2 c = simp (le-ltb _ _ (c .if1 .left))
 
 pub begun-spec : {M : Type 1} → statement M
-begun-spec = tie.close (tie.spec (λ c. search needs) returns returns-2)
+begun-spec = tie.close (tie.spec (λ c. search needs) (λ c. search needs) returns returns-2)

@@ -15,4 +15,4 @@ unfolding digitTyped
 returns-2 c = c .begun .ensures ∙ sym (pick-false _ _ _ (c .before .if1 .left))
 
 pub digit-typed-spec : {M : Type 1} → statement M
-digit-typed-spec = tie.close (tie.spec (λ c. search needs) (λ c κs. search needs) returns (λ c κs. search needs) returns-2)
+digit-typed-spec = tie.close (tie.spec (λ c κs. search needs) returns (λ c κs. search needs) returns-2)
