@@ -3,6 +3,7 @@
 --   inMemory                     a base in the memory
 --   multipleBelow, lastBase      the last multiple at or below a word, and the last base for so many ports in the word's stretch of 128 blocks
 --   baseMended                   the base, lowered as far as it must be
+--   withBase, lowered            a setting with another base, and with its own lowered
 --   advised                      what to type instead
 -- Not here: that setup takes it, and that no higher base at or below the one typed would do, in laws/Advice.
 -- Assumes nothing.
@@ -36,18 +37,21 @@ multipleBelow m a = a - a % m
 abbrev pub lastBase : ℕ → ℕ → ℕ → ℕ
 lastBase b n a = multipleBelow (128 * b) a + (128 - n) / 8 * (8 * b)
 
--- the lower of the two
+-- the last multiple of 8 blocks at or below the base, or that last base where it is lower
 unfoldable pub baseMended : ℕ → ℕ → ℕ → ℕ
 baseMended b n a =
     pick (ltb (multipleBelow (8 * b) (inMemory a)) (lastBase b n (inMemory a)))
     (multipleBelow (8 * b) (inMemory a))
     (lastBase b n (inMemory a))
 
--- the sizes mended where they must be, and the base lowered as far as it must be
+-- the setting with another base
+abbrev pub withBase : Setting → ℕ → Setting
+withBase s a = record { block = s .block; ports = s .ports; base = a }
+
+-- the setting with its base lowered as far as it must be
+abbrev pub lowered : Setting → Setting
+lowered s = withBase s (baseMended (s .block) (s .ports) (s .base))
+
+-- the sizes mended where they must be, and then the base
 unfoldable pub advised : Setting → Setting
-advised s =
-    record {
-      block = sizesMended s .block;
-      ports = sizesMended s .ports;
-      base = baseMended (sizesMended s .block) (sizesMended s .ports) (sizesMended s .base);
-    }
+advised s = lowered (sizesMended s)

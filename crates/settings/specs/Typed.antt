@@ -49,10 +49,10 @@ unfoldable pub digitTyped : Line → ℕ → Line
 digitTyped t b = pick (t .inside) (extended t b) (begun t b)
 
 -- a space, a tab, or the carriage return that some systems put at the end of a line
-unfoldable pub isSpace : ℕ → Bool
-isSpace b = eqb b 32 || (eqb b 9 || eqb b 13)
+abbrev pub isSpace : ℕ → Bool
+isSpace b = (eqb b 32 || eqb b 9) || eqb b 13
 
--- any other byte ends the number; but for a space it is wrong
+-- a byte that is no digit ends the number; but for a space it is wrong
 abbrev pub spaced : Line → ℕ → Line
 spaced t b =
     record {

@@ -71,16 +71,10 @@ fn digit_typed(t: Line, b: u8) -> Line
 fn is_space(b: u8) -> bool
     ensures { λ r. ⌜ r ≡ isSpace b ⌝ }
 {
-    if b == 32 {
-        return true;
-    }
-    if b == 9 {
-        return true;
-    }
-    b == 13
+    (b == 32) | (b == 9) | (b == 13)
 }
 
-// Any other byte ends the number; but for a space it is wrong.
+// A byte that is no digit ends the number; but for a space it is wrong.
 fn spaced(t: Line, b: u8) -> Line
     ensures { λ r. ⌜ r ≡ spaced t b ⌝ }
 {

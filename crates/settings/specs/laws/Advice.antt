@@ -18,7 +18,7 @@ use Rattle.unit.specs.declared.mux.Setting.{Setting}
 use Rattle.unit.specs.Refusals.{MOST-PORTS, tooHigh, refusal, ofSetup}
 use Rattle.unit.specs.Sound.{IsBlock, eight, sixteen, thirty-two, SizeFits, BaseFits, AreaFits}
 use Rattle.unit.specs.laws.Sound.{by-block, setup-iff}
-use Rattle.settings.specs.Advice.{blockMended, portsMended, sizesMended, inMemory, multipleBelow, lastBase, baseMended, advised}
+use Rattle.settings.specs.Advice.{blockMended, portsMended, sizesMended, inMemory, multipleBelow, lastBase, baseMended, withBase, lowered, advised}
 
 -- ---- the sizes
 
@@ -175,10 +175,6 @@ mended b n a i p q = go (ltb lower higher) refl
 
 -- ---- what is advised
 
--- the setting with another base
-abbrev pub at : Setting → ℕ → Setting
-at s a = record { block = s .block; ports = s .ports; base = a }
-
 -- what is said of the base that is advised
 based : (s : Setting) → Mended (sizesMended s .block) (sizesMended s .ports) (s .base) (advised s .base)
 unfolding advised sizesMended
@@ -198,9 +194,9 @@ pub advised-below : (s : Setting) → advised s .base ≤ s .base
 advised-below s = based s .below
 
 -- and no higher base, at or below the one typed, would do
-pub advised-last : (s : Setting) (x : ℕ) → x ≤ s .base → refusal (ofSetup (at (advised s) x)) ≡ 0 → x ≤ advised s .base
+pub advised-last : (s : Setting) (x : ℕ) → x ≤ s .base → refusal (ofSetup (withBase (advised s) x)) ≡ 0 → x ≤ advised s .base
 unfolding advised
-advised-last s x h e = let f = setup-iff (at (advised s) x) .0 e in based s .last x h (f .base, f .area)
+advised-last s x h e = let f = setup-iff (withBase (advised s) x) .0 e in based s .last x h (f .base, f .area)
 
 -- a size that passes is kept, whatever else is wrong
 pub advised-block : (s : Setting) → IsBlock (s .block) → advised s .block ≡ s .block
@@ -218,4 +214,4 @@ advised-kept s e =
     let f = setup-iff s .0 e in
     let m = mended (s .block) (s .ports) (s .base) (f .size .block) (f .size .some-port) (f .size .few-ports) in
     let b : baseMended (s .block) (s .ports) (s .base) ≡ s .base = omega (arith, m .below, m .last (s .base) (omega arith) (f .base, f .area)) in
-    ap (λ (z : Setting). at z (baseMended (z .block) (z .ports) (z .base))) (sizes-kept s (f .size)) ∙ ap (λ (a : ℕ). at s a) b
+    ap lowered (sizes-kept s (f .size)) ∙ ap (λ (a : ℕ). withBase s a) b

@@ -5,7 +5,7 @@
 -- Not here: how a line is read, in specs/Typed; a number's digits, in Printed of the crate driver.
 -- Assumes nothing.
 use mathlib.Core.Path.{_≡_, refl, sym, ap, _∙_}
-use mathlib.Core.Bool.{Bool, true, false, _||_}
+use mathlib.Core.Bool.{Bool, true, false, or-false}
 use mathlib.Core.List.{List, [], _∷_, _++_, foldl, foldl-append, append-nil}
 use Prim.Native.Nat.{ℕ, zero, suc, _+_, _*_, _/_, _%_, _^_, _<_, _≤_}
 use native.Mathlib.Nat.{pow-suc, div-lt-iff-lt-mul}
@@ -21,7 +21,7 @@ use Rattle.driver.specs.Printed.{numeral, decimal}
 use Rattle.settings.specs.declared.typed.Line.{Line}
 use Rattle.settings.specs.declared.say.Answer.{Answer}
 use Rattle.settings.specs.declared.Reader.{Reader}
-use Rattle.settings.specs.Typed.{blank, begun, extended, digitTyped, isSpace, spaced, typed}
+use Rattle.settings.specs.Typed.{blank, begun, extended, digitTyped, spaced, typed}
 use Rattle.settings.specs.Advice.{advised}
 use Rattle.settings.specs.Answer.{answerTo, taken, readOn, shut, Heard}
 
@@ -48,11 +48,7 @@ next t x y h g =
     let e : (48 + y) % 16 ≡ y = omega arith in
     let m : (x * 10 + y) % 4294967296 ≡ x * 10 + y = omega arith in
     rw (ne-eqb (48 + y) 10 (λ e. omega (arith, e)), digit y h, e, m, le-ltb 4294967295 (x * 10 + y) (omega arith))
-    (ap (λ (w : Bool). record { block = t .ports; ports = t .base; base = x * 10 + y; count = t .count + 1; inside = true; wrong = w }) (or-nothing (t .wrong)))
-  where
-    or-nothing : (w : Bool) → (w || false) ≡ w
-    or-nothing true = refl
-    or-nothing false = refl
+    (ap (λ (w : Bool). record { block = t .ports; ports = t .base; base = x * 10 + y; count = t .count + 1; inside = true; wrong = w }) (or-false (t .wrong)))
 
 -- a number's digits, where k of them are enough
 number : (k x : ℕ) (t : Line) → 0 < k → x < 10 ^ k → x < 4294967296 → t .inside ≡ false → t .count < 3 → foldl taken t (numeral k x) ≡ and t x
@@ -82,7 +78,7 @@ number-then x t rest h i c =
 
 -- a space, and the next number
 space : (t : Line) (x y : ℕ) (rest : List ℕ) → y < 4294967296 → t .count < 2 → t .wrong ≡ false → foldl taken (and t x) (32 ∷ (decimal y ++ rest)) ≡ foldl taken (and (and t x) y) rest
-unfolding taken typed isSpace isDigit pick
+unfolding taken typed isDigit pick
 space t x y rest h c w =
     number-then y (spaced (and t x) 32) rest h refl (omega arith) ∙ rw w
 
