@@ -2,8 +2,10 @@
 --   Field    a bit field: written and read back, and the fields beside it
 --   Codes    each word is its fields side by side; the codes of two bits; what 7-bit ASCII mode makes of a byte is a byte
 --   Byte     bytes in the host's memory: read back, and all others as they were
+--   Special  the special codes by ranges
 --   Length   there is at least one code of any length
 pub mod Field
 pub mod Codes
 pub mod Byte
+pub mod Special
 pub mod Length
