@@ -28,6 +28,7 @@ use Rattle.words.specs.laws.Codes.{word-fits}
 use Rattle.words.specs.Byte.{byteAt, wordIf, byteIf}
 use Rattle.words.specs.laws.Byte.{length-wordIf, length-byteIf, other-word, other-word-of-byte, other-byte-of-word, read-word, read-byte}
 use Rattle.words.specs.Special.{isSpecial}
+use Rattle.words.specs.laws.Special.{special-high}
 use Rattle.unit.specs.declared.mux.Port.{Port}
 use Rattle.unit.specs.Refusals.{WORDS}
 use Rattle.input.specs.declared.plan.Plan.{Plan}
@@ -157,8 +158,7 @@ pub record Bar (q : Port) (code : ℕ) : Type 0 where
 
 -- one interrupt, octal 374 in ICW with the error code, and nothing stored that would print it again
 pub glottal-stop : (m : List ℕ) (a : ℕ) (q : Port) (code : ℕ) → Placed m a → Automatic m a → Bar q code → Reported m a q code 0o374
-unfolding isSpecial
-glottal-stop m a q code p h k = rw (k .bar, k .coded) at (special m a q p h (rw (k .bar)))
+glottal-stop m a q code p h k = rw (k .bar, k .coded) at (special m a q p h (special-high (q .ch .byte) (omega (arith, k .bar))))
 
 -- a glottal stop that replaced a held character carries the mark
 pub bar-marked : (q : Port) → q .ch .byte % 128 ≡ 0o174 → q .ch .overload ≡ true → Bar q flagOverload
