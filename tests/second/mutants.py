@@ -159,6 +159,17 @@ MUTANTS = [
     ('124 is ordinary', "low > 0o173", "low > 0o174"),
     ('123 is special', "low > 0o173", "low >= 0o173"),
     ('32 is special', "low < 0o40", "low <= 0o40"),
+    ('31 is ordinary', "low < 0o40", "low < 0o37"),
+    ('127 is ordinary', "low > 0o173", "0o177 > low > 0o173"),
+    ('0 is ordinary', "low < 0o40", "0 < low < 0o40"),
+    ('escape is ordinary', "low < 0o40", "low < 0o40 and low != 0o33"),
+    ('126 is ordinary', "low > 0o173", "(low > 0o173 and low != 0o176)"),
+    ('at sign is special', "return low < 0o40", "return low == 0o100 or low < 0o40"),
+    ('special and ordinary exchanged',
+     "return low < 0o40 or low > 0o173", "return not (low < 0o40 or low > 0o173)"),
+    ('input looks at eight bits', "ascii7 and self.special(character)",
+     "ascii7 and (BYTE_OF[character] < 0o40 or BYTE_OF[character] > 0o173)"),
+    ('output looks at eight bits', "self.special(BYTE_BITS[byte])", "(byte < 0o40 or byte > 0o173)"),
 
     # Input.
     ('parity and overload codes exchanged',

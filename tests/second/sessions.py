@@ -15,6 +15,8 @@ DIGEST_EVERY = 256                  # printed lines between two whole digests
 
 MANY, HIGH = 4294967295, 4294967040     # the largest number, and a multiple of every 8b below it
 CODES = (0, 13, 31, 32, 65, 123, 124, 125, 127)         # around the special codes
+RECEIVING = (0o40000, 0o60000, 0o50000, 0o70000)        # automatic, then with an echo; the same in 7-bit ASCII mode
+SENDING = (0o20000, 0o30000)                            # automatic, then with an interrupt at a special code
 EDGES = (65533, 65534, 65535, 0, 1)
 
 # How often each action is chosen, by the kind of session.
@@ -491,8 +493,48 @@ def bases_session():
     return author, reached
 
 
+def code_received(author, icw, code):
+    """A character of this code, served under this ICW into the middle of a buffer; what it echoes is sent."""
+    block = author.block(0)
+    for at, word in ((0, icw), (4, 2000), (6, 3000)):
+        author.write(block + at, word)
+    author.do(drive.ARRIVAL, 0, code, 0, 0)
+    author.inspect()
+    author.do(drive.TRANSMITTED, 0)
+
+
+def code_sent(author, ocw, code):
+    """A byte of this code, sent under this OCW from the middle of a buffer."""
+    block = author.block(0)
+    for at, word in ((1, ocw), (5, 2001), (7, 3000)):
+        author.write(block + at, word)
+    author.write(1001, code * 256)
+    author.inspect()
+    author.do(drive.TRANSMITTED, 0)
+
+
+def codes_session():
+    """The session of the special codes, by calls and host writes alone: each of the 256 received under each of RECEIVING and
+    sent under each of SENDING."""
+    author = Author(SEED, 0)
+    author.kind = 'codes'
+    author.do(drive.SETUP, 8, 1, 64, 0)
+    author.do(drive.DOC)
+    author.write(author.block(0) + 1, 0o40060)          # port control: characters of eight bits
+    author.inspect()
+    for code in range(256):
+        for icw in RECEIVING:
+            code_received(author, icw, code)
+        for ocw in SENDING:
+            code_sent(author, ocw, code)
+    reached = author.mux.reached
+    author.do(drive.END)
+    return author, reached
+
+
 def fixed_set(seed=SEED, sessions=SESSIONS):
     yield speeds_session()
     yield bases_session()
+    yield codes_session()
     for number in range(sessions):
         yield write_session(seed, number)

@@ -1,4 +1,4 @@
-"""Checks the second program by document 01's settled examples, K1 of document 02 and the manual's own values.
+"""Checks the second program by document 01's settled examples, K1 and K4 of document 02 and the manual's own values.
 
 It also checks that the digests are those of FORMAT.md, that a written session
 can be read and driven again, that compare.py finds a changed line and that
@@ -72,6 +72,21 @@ def test_special_codes():
         for top in (0, 128):
             wanted = low < 32 or low > 123
             assert mux.special(mux2.BYTE_BITS[low + top]) == wanted
+
+
+def test_every_code_is_received_and_sent():
+    author, _ = sessions.codes_session()
+    lines = [[int(word) for word in line.split()] for line in author.printed]
+    turns = iter([Answer(*line[2:7]) for line in lines if line[0] == drive.INSPECT][1:])
+    for code in range(256):
+        special = int(not 32 <= code % 128 <= 123)
+        assert next(turns) == Answer(INPUT, 0, 0, 0, 0)
+        assert next(turns) == Answer(INPUT, 0, 1, code, 0)
+        assert next(turns) == Answer(INPUT, 0, 0, 0, special)
+        assert next(turns) == (Answer(INPUT, 0, 0, 0, 1) if special else Answer(INPUT, 0, 1, code, 0))
+        assert next(turns) == Answer(OUTPUT, 0, 1, code, 0)
+        assert next(turns) == Answer(OUTPUT, 0, 1, code, special)
+    assert not list(turns)
 
 
 def test_three_bytes_into_a_buffer():
@@ -532,7 +547,8 @@ def test_orders_keep_the_format():
             13: (32760,), 14: (number, 32760), 20: (39999, word), 21: (2147483646,), 22: (40000,),
             23: (4200, word), 24: (7, number), 25: (127, 8, 255), 26: (255,)}
     written = [sessions.write_session(7, number)[0] for number in range(len(sessions.KINDS))]
-    for author in written + [sessions.speeds_session()[0], sessions.bases_session()[0]]:
+    for author in written + [sessions.speeds_session()[0], sessions.bases_session()[0],
+                             sessions.codes_session()[0]]:
         for op, *rest in author.orders:
             limits = most.get(op, ())
             assert op in drive.NAMES and len(rest) == len(limits)
