@@ -1,6 +1,6 @@
 """A second EDS-8, for comparison with the proved one.
 
-Written from document 01, requests K1 and K4 of document 02, the 1974 manual (001) and
+Written from document 01, request K1 of document 02 (K4 asks nothing of it), the 1974 manual (001) and
 the readings of docs/DECISIONS.md, without sight of the definitions or the code. It takes
 another road than the proved program: a word is a list of sixteen 0s and 1s indexed by the
 manual's bit numbers, a port is an immutable object, and memory is a bytearray
