@@ -1,96 +1,48 @@
 -- The glottal stop in 7-bit ASCII mode (document 01, Input 1, 4, 5 and 6). It is sent as the vertical bar, octal 174, which is special.
---   Placed, Automatic    a block in the host's memory; 7-bit ASCII automatic mode, INDONE clear as read
+--   Automatic            7-bit ASCII automatic mode, INDONE clear as read
 --   Told, Reported       a character reaches the host by ICW and one interrupt, and by nothing else
 --   special, with-error  so does a special code, with an error or without, and any code with an error
 --   Bar, glottal-stop    so the glottal stop is reported once, as octal 374 with its error code, and never stored or echoed
 --   glottal-stop-marked, marked-code   also where it replaced a held character: it has the overload code
---   Stored, ordinary     any other code is stored once, and ICW is left alone unless the character is done
+--   ordinary             any other code is stored once, its top bit 1, and ICW is left alone unless the character is done
 --   Replaced, replaced   a character that finds INDONE set replaces the one in ICW, and bit 7 says that one was lost
 --   glottal-stop-lost    so a glottal stop that the host did not take in time is lost, and the loss is marked
--- Not here: every other word and byte of the memory, in Kept; which codes are special, in words' Special; the glottal stop of an inspection, a
+-- Not here: a character in automatic mode, 7-bit ASCII or not, in Automatic; every other word and byte of the memory, in Kept; which codes are special, in words' Special; the glottal stop of an inspection, a
 -- sweep and a call, in laws/Glottal of scan, sweep and door.
 -- Assumes nothing.
 use mathlib.Core.Path.{_≡_, _∙_, ap, refl, sym}
-use mathlib.Core.Bool.{Bool, true, false, not, _&&_, _||_, or-true}
+use mathlib.Core.Bool.{Bool, true, false, not, _&&_, _||_, or-true, and-false}
 use mathlib.Core.List.{List}
-use mathlib.Core.Logic.{_≢_, _⊎_, inl, inr}
-use Prim.Native.Nat.{ℕ, _+_, _/_, _%_, _<_, _≤_}
+use mathlib.Core.Logic.{_≢_}
+use Prim.Native.Nat.{ℕ, _+_, _/_, _%_, _<_}
 use native.Mathlib.Omega.{arith}
 use lib.Dec.{eqb, lit<}
-use lib.ListN.{length, getD, set}
-use lib.Seq.{getD-set-same}
+use lib.ListN.{length, getD}
 use borrow.Author.Tests.{ne-eqb}
-use Rattle.ground.specs.Choose.{pick, bit}
-use Rattle.ground.specs.laws.Rows.{pick-true, pick-false}
+use Rattle.ground.specs.Choose.{pick}
+use Rattle.ground.specs.laws.Rows.{pick-true}
 use Rattle.words.specs.Field.{get}
-use Rattle.words.specs.Codes.{atICW, atIBP, INDONE, INMO, inAuto, inEcho, ASCII, FLAGS, flagNone, flagOverload, NOT-ECHOED, SERVICE-OVERLOAD, CHARACTER, storedByte, wordByte}
+use Rattle.words.specs.Codes.{atICW, atIBP, INDONE, INMO, ASCII, FLAGS, flagNone, flagOverload, NOT-ECHOED, SERVICE-OVERLOAD, CHARACTER, storedByte, wordByte}
 use Rattle.words.specs.laws.Codes.{word-fits}
 use Rattle.words.specs.Byte.{byteAt, wordIf, byteIf}
-use Rattle.words.specs.laws.Byte.{length-wordIf, length-byteIf, other-word, other-word-of-byte, other-byte-of-word, read-word, read-byte}
 use Rattle.words.specs.Special.{isSpecial}
 use Rattle.words.specs.laws.Special.{special-high}
 use Rattle.unit.specs.declared.mux.Port.{Port}
-use Rattle.unit.specs.Refusals.{WORDS}
 use Rattle.input.specs.declared.plan.Plan.{Plan}
-use Rattle.input.specs.Input.{errorCode, ascii, replacedICW, doneICW, replacedPlan, donePlan, storedPlan, inputPlan, carried, inputService}
+use Rattle.input.specs.Input.{errorCode, ascii, replacedICW, doneICW, replacedPlan, donePlan, inputPlan, carried, inputService}
 use Rattle.input.specs.laws.Word.{code-fits, done-character, done-mark, done-flags, done-ascii, done-mode, done-overload, done-done, replaced-character, replaced-overload, replaced-flags, replaced-done}
-use Rattle.input.specs.laws.Kept.{icwOf, lastOf, codeOf, planOf, nextOf, after, kept-length, Unstored, indone-set, in-error, special-code, kept-unstored}
-
--- the echo that the mode asks for finds the transmitter busy
-abbrev pub busyOf : List ℕ → ℕ → Port → Bool
-busyOf m a q = eqb (get INMO (icwOf m a)) inEcho && not (q .empty)
-
--- the host's memory with a whole block at the word a
-pub record Placed (m : List ℕ) (a : ℕ) : Type 0 where
-  pub words : length m ≡ WORDS
-  pub inside : a + 8 ≤ WORDS
+use Rattle.input.specs.laws.Kept.{icwOf, codeOf, planOf, nextOf, after, kept-length, Unstored, indone-set, in-error, special-code, kept-unstored}
+use Rattle.input.specs.laws.Automatic.{Placed, Filling, apart, reportedPlan, bufferedPlan, automatic, that-word, Stored, stored}
 
 -- 7-bit ASCII automatic mode, with echo or without, and INDONE clear as read
 pub record Automatic (m : List ℕ) (a : ℕ) : Type 0 where
-  pub clear : get INDONE (icwOf m a) ≡ 0
-  pub mode : (get INMO (icwOf m a) ≡ inAuto) ⊎ (get INMO (icwOf m a) ≡ inEcho)
+  pub filling : Filling (icwOf m a)
   pub ascii : get ASCII (icwOf m a) ≡ 1
-
--- ---- the plan of a character in that mode
-
--- steps 4 and 5: neither sets the echo mark
-abbrev reportedPlan : List ℕ → ℕ → Port → Plan
-reportedPlan m a q = donePlan (icwOf m a) (codeOf q) 0 (q .ch .byte)
-
--- step 6
-abbrev bufferedPlan : List ℕ → ℕ → Port → Plan
-bufferedPlan m a q = storedPlan (icwOf m a) (q .ch .byte) (lastOf m a) (eqb (get INMO (icwOf m a)) inEcho) (q .empty)
-
--- an error or a special code
-abbrev apart : Port → Bool
-apart q = not (eqb (codeOf q) flagNone) || isSpecial (q .ch .byte)
-
-both-ways : (s t : Bool) (p r : Plan) → pick s p (pick t p r) ≡ pick (s || t) p r
-unfolding pick
-both-ways true t p r = refl
-both-ways false t p r = refl
-
--- steps 1 to 3 are passed
-automatic : (m : List ℕ) (a : ℕ) (q : Port) → Automatic m a → planOf m a q ≡ pick (apart q) (reportedPlan m a q) (bufferedPlan m a q)
-unfolding inputPlan ascii pick
-automatic m a q h = by (h .mode) ∙ both-ways (not (eqb (codeOf q) flagNone)) (isSpecial (q .ch .byte)) (reportedPlan m a q) (bufferedPlan m a q)
-  where
-    rest : Plan
-    rest = pick (not (eqb (codeOf q) flagNone)) (reportedPlan m a q) (pick (isSpecial (q .ch .byte)) (reportedPlan m a q) (bufferedPlan m a q))
-
-    by : (get INMO (icwOf m a) ≡ inAuto) ⊎ (get INMO (icwOf m a) ≡ inEcho) → planOf m a q ≡ rest
-    by (inl e) = simp (h .clear, e, h .ascii)
-    by (inr e) = simp (h .clear, e, h .ascii)
 
 -- the top bit becomes 1, in ICW and in the buffer
 top-bit : (icw c : ℕ) → get ASCII icw ≡ 1 → (wordByte (ascii icw) c ≡ 128 + c % 128) × (storedByte (ascii icw) c ≡ 128 + c % 128)
 unfolding wordByte storedByte ascii pick
 top-bit icw c e = (rw e, rw e)
-
--- ---- a service that writes ICW and no other word
-
-that-word : (m : List ℕ) (a : ℕ) (q : Port) (w : ℕ) → Placed m a → after m a q ≡ set m (a + atICW) w → icwOf (after m a q) a ≡ w
-that-word m a q w h e = rw e (getD-set-same m (a + atICW) w 0 (omega (arith, h .words, h .inside)))
 
 -- ---- an error and a special code
 
@@ -115,13 +67,13 @@ pub record Reported (m : List ℕ) (a : ℕ) (q : Port) (code b : ℕ) : Type 0 
   pub told : Told m (after m a q) a code b
 
 module _ (m : List ℕ) (a : ℕ) (q : Port) (placed : Placed m a) (h : Automatic m a) where
-  reported : apart q ≡ true → Unstored m a q → Reported m a q (codeOf q) (128 + q .ch .byte % 128)
+  reported : apart m a q ≡ true → Unstored m a q → Reported m a q (codeOf q) (128 + q .ch .byte % 128)
   unfolding inputService carried donePlan wordIf byteIf pick
   reported t u =
       let icw = icwOf m a in
       let c = q .ch .byte in
       let w = doneICW icw (codeOf q) 0 c in
-      let planned = automatic m a q h ∙ pick-true (apart q) (reportedPlan m a q) (bufferedPlan m a q) t in
+      let planned = automatic m a q (h .filling) ∙ pick-true (apart m a q) (reportedPlan m a q) (bufferedPlan m a q) t in
       let there = that-word m a q w placed (ap (λ (p : Plan). carried p a (nextOf m a) m) planned) in
       let fits = code-fits (q .control) (q .ch) in
       let byte = top-bit icw c (h .ascii) .0 in
@@ -145,7 +97,8 @@ module _ (m : List ℕ) (a : ℕ) (q : Port) (placed : Placed m a) (h : Automati
 
   -- a special code is reported, its top bit 1, with its error code
   pub special : isSpecial (q .ch .byte) ≡ true → Reported m a q (codeOf q) (128 + q .ch .byte % 128)
-  special s = reported (rw s (or-true (not (eqb (codeOf q) flagNone)))) (special-code (h .ascii) s)
+  unfolding ascii
+  special s = reported (rw (s, h .ascii) (or-true (not (eqb (codeOf q) flagNone)))) (special-code (h .ascii) s)
 
   -- so is any code with an error
   pub with-error : codeOf q ≢ flagNone → Reported m a q (codeOf q) (128 + q .ch .byte % 128)
@@ -175,49 +128,12 @@ glottal-stop-marked m a q p h e o = glottal-stop m a q flagOverload p h (bar-mar
 
 -- ---- an ordinary code
 
--- the byte is in the buffer, its top bit 1, and IBP names it unless the byte itself lies there. It is done, with an interrupt, only as the buffer's last byte or where its
--- echo finds the transmitter busy; where it is not, ICW is as read. Every other word is as Kept says.
-pub record Stored (m : List ℕ) (a : ℕ) (q : Port) : Type 0 where
-  pub stored : byteAt (after m a q) (nextOf m a) ≡ 128 + q .ch .byte % 128
-  pub pointer : nextOf m a / 2 ≢ a + atIBP → getD (after m a q) (a + atIBP) 0 ≡ nextOf m a
-  pub interrupt : inputService m a q .effect .raised ≡ lastOf m a || busyOf m a q
-  pub same-icw : lastOf m a || busyOf m a q ≡ false → icwOf (after m a q) a ≡ icwOf m a
-  pub done-icw : lastOf m a || busyOf m a q ≡ true → icwOf (after m a q) a ≡ doneICW (icwOf m a) flagNone (bit (busyOf m a q)) (q .ch .byte)
-
--- a letter whose place in the buffer is not this port's ICW. Its place may be IBP: the byte is stored after the pointer, and is there.
-pub ordinary : (m : List ℕ) (a : ℕ) (q : Port) → Placed m a → Automatic m a → codeOf q ≡ flagNone → isSpecial (q .ch .byte) ≡ false → nextOf m a / 2 ≢ a + atICW → Stored m a q
-unfolding inputService carried storedPlan wordIf pick
+-- a letter is in the buffer with its top bit 1, where its place is not this port's ICW
+pub ordinary : (m : List ℕ) (a : ℕ) (q : Port) → Placed m a → Automatic m a → codeOf q ≡ flagNone → isSpecial (q .ch .byte) ≡ false → nextOf m a / 2 ≢ a + atICW → Stored m a q × (byteAt (after m a q) (nextOf m a) ≡ 128 + q .ch .byte % 128)
 ordinary m a q placed h n s not-icw =
-    let c = q .ch .byte in
-    let next = nextOf m a in
-    let done = lastOf m a || busyOf m a q in
-    let p = bufferedPlan m a q in
-    let planned = automatic m a q h ∙ pick-false (apart q) (reportedPlan m a q) p (rw (n, s)) in
-    let written : after m a q ≡ carried p a next m = ap (λ (r : Plan). carried r a next m) planned in
-    let pointed = wordIf true m (a + atIBP) next in
-    let stored = byteIf true pointed next (p .byte) in
-    record {
-      stored =
-          ap (λ (r : List ℕ). byteAt r next) written
-          ∙ other-byte-of-word done stored (a + atICW) (p .icw) next not-icw
-          ∙ read-byte pointed next (p .byte) (rw length-wordIf (omega (arith, placed .words))) (omega (arith, top-bit (icwOf m a) c (h .ascii) .1))
-          ∙ top-bit (icwOf m a) c (h .ascii) .1;
-      pointer = λ not-ibp.
-          ap (λ (r : List ℕ). getD r (a + atIBP) 0) written
-          ∙ other-word done stored (a + atICW) (p .icw) (a + atIBP) (λ e. omega (arith, e))
-          ∙ other-word-of-byte true pointed next (p .byte) (a + atIBP) (λ e. not-ibp (sym e))
-          ∙ read-word m (a + atIBP) next (omega (arith, placed .words, placed .inside));
-      interrupt = ap (λ (r : Plan). r .raised) planned;
-      same-icw = λ quiet.
-          ap (λ (r : List ℕ). getD r (a + atICW) 0) written
-          ∙ ap (λ (t : Bool). getD (wordIf t stored (a + atICW) (p .icw)) (a + atICW) 0) quiet
-          ∙ other-word-of-byte true pointed next (p .byte) (a + atICW) (λ e. not-icw (sym e))
-          ∙ other-word true m (a + atIBP) next (a + atICW) (λ e. omega (arith, e));
-      done-icw = λ full.
-          ap (λ (r : List ℕ). getD r (a + atICW) 0) written
-          ∙ ap (λ (t : Bool). getD (wordIf t stored (a + atICW) (p .icw)) (a + atICW) 0) full
-          ∙ read-word stored (a + atICW) (p .icw) (simp (length-byteIf, length-wordIf) (omega (arith, placed .words, placed .inside)));
-    }
+    let byte = top-bit (icwOf m a) (q .ch .byte) (h .ascii) .1 in
+    let there = stored m a q placed (h .filling) (omega (arith, byte)) (rw (n, s) (and-false (ascii (icwOf m a)))) not-icw in
+    (there, there .stored ∙ byte)
 
 -- ---- a character that comes while INDONE is set
 

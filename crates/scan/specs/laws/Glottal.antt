@@ -22,7 +22,8 @@ use Rattle.unit.specs.Sound.{Sound}
 use Rattle.unit.specs.laws.Sound.{block-inside}
 use Rattle.unit.specs.laws.Ports.{held-inside}
 use Rattle.words.specs.Codes.{flagOverload}
-use Rattle.input.specs.laws.Glottal.{Placed, Automatic, Told, Bar, marked-code, glottal-stop}
+use Rattle.input.specs.laws.Automatic.{Placed}
+use Rattle.input.specs.laws.Glottal.{Automatic, Told, Bar, marked-code, glottal-stop}
 use Rattle.scan.specs.Turn.{service, servedTurn, irqAfter}
 use Rattle.scan.specs.Scan.{serviceTurn, inspection}
 use Rattle.scan.specs.laws.Scan.{sound-scans, scanned-input, Moves, scan-moves, turn-takes, service-empty}

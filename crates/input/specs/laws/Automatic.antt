@@ -1,0 +1,128 @@
+-- A character in automatic mode (document 01, Input 4, 5 and 6): the host is told of it by ICW, or it is stored in the buffer.
+--   Placed, Filling   a block in the host's memory; automatic mode, with echo or without, INDONE clear as read
+--   apart, automatic  steps 1 to 3 are passed: an error or a special code of 7-bit ASCII mode is done, any other character is stored
+--   that-word         where a service writes ICW and no other word, ICW is what it writes
+--   Stored, stored    a character that is stored: its byte, IBP, the interrupt and ICW
+--   raised-done       a character that raises an interrupt leaves INDONE set
+-- Not here: the glottal stop and what 7-bit ASCII mode makes of a byte, in Glottal; every other word of the memory, in Kept.
+-- Assumes nothing.
+use mathlib.Core.Path.{_≡_, _∙_, ap, refl, sym}
+use mathlib.Core.Bool.{Bool, true, false, not, _&&_, _||_}
+use mathlib.Core.List.{List}
+use mathlib.Core.Logic.{_≢_, _⊎_, inl, inr}
+use Prim.Native.Nat.{ℕ, _+_, _/_, _<_, _≤_}
+use native.Mathlib.Omega.{arith}
+use lib.Dec.{eqb, lit<}
+use lib.ListN.{length, getD, set}
+use lib.Seq.{getD-set-same}
+use Rattle.ground.specs.Choose.{pick, bit}
+use Rattle.ground.specs.laws.Rows.{pick-true, pick-false}
+use Rattle.words.specs.Field.{get}
+use Rattle.words.specs.Codes.{atICW, atIBP, INDONE, INMO, inAuto, inEcho, flagNone, storedByte, wordByte}
+use Rattle.words.specs.laws.Codes.{word-fits, stored-fits}
+use Rattle.words.specs.Byte.{byteAt, wordIf, byteIf}
+use Rattle.words.specs.laws.Byte.{length-wordIf, length-byteIf, other-word, other-word-of-byte, other-byte-of-word, read-word, read-byte}
+use Rattle.words.specs.Special.{isSpecial}
+use Rattle.unit.specs.declared.mux.Port.{Port}
+use Rattle.unit.specs.Refusals.{WORDS}
+use Rattle.input.specs.declared.plan.Plan.{Plan}
+use Rattle.input.specs.Input.{ascii, doneICW, donePlan, storedPlan, inputPlan, carried, inputService}
+use Rattle.input.specs.laws.Kept.{icwOf, lastOf, codeOf, planOf, nextOf, after}
+
+-- the host's memory with a whole block at the word a
+pub record Placed (m : List ℕ) (a : ℕ) : Type 0 where
+  pub words : length m ≡ WORDS
+  pub inside : a + 8 ≤ WORDS
+
+-- ICW asks for automatic mode, with echo or without, and INDONE is clear
+pub record Filling (icw : ℕ) : Type 0 where
+  pub clear : get INDONE icw ≡ 0
+  pub mode : (get INMO icw ≡ inAuto) ⊎ (get INMO icw ≡ inEcho)
+
+-- ---- the plan
+
+-- an error, or a special code in 7-bit ASCII mode: the character does not go to the buffer
+abbrev pub apart : List ℕ → ℕ → Port → Bool
+apart m a q = not (eqb (codeOf q) flagNone) || (ascii (icwOf m a) && isSpecial (q .ch .byte))
+
+-- the echo that the mode asks for finds the transmitter busy
+abbrev pub busyOf : List ℕ → ℕ → Port → Bool
+busyOf m a q = eqb (get INMO (icwOf m a)) inEcho && not (q .empty)
+
+-- the stored character is done
+abbrev pub doneOf : List ℕ → ℕ → Port → Bool
+doneOf m a q = lastOf m a || busyOf m a q
+
+-- steps 4 and 5: neither sets the echo mark
+abbrev pub reportedPlan : List ℕ → ℕ → Port → Plan
+reportedPlan m a q = donePlan (icwOf m a) (codeOf q) 0 (q .ch .byte)
+
+-- step 6
+abbrev pub bufferedPlan : List ℕ → ℕ → Port → Plan
+bufferedPlan m a q = storedPlan (icwOf m a) (q .ch .byte) (lastOf m a) (eqb (get INMO (icwOf m a)) inEcho) (q .empty)
+
+both-ways : (s t : Bool) (p r : Plan) → pick s p (pick t p r) ≡ pick (s || t) p r
+unfolding pick
+both-ways true t p r = refl
+both-ways false t p r = refl
+
+-- steps 1 to 3 are passed
+pub automatic : (m : List ℕ) (a : ℕ) (q : Port) → Filling (icwOf m a) → planOf m a q ≡ pick (apart m a q) (reportedPlan m a q) (bufferedPlan m a q)
+unfolding inputPlan pick
+automatic m a q h = by (h .mode) ∙ both-ways (not (eqb (codeOf q) flagNone)) (ascii (icwOf m a) && isSpecial (q .ch .byte)) (reportedPlan m a q) (bufferedPlan m a q)
+  where
+    rest : Plan
+    rest = pick (not (eqb (codeOf q) flagNone)) (reportedPlan m a q) (pick (ascii (icwOf m a) && isSpecial (q .ch .byte)) (reportedPlan m a q) (bufferedPlan m a q))
+
+    by : (get INMO (icwOf m a) ≡ inAuto) ⊎ (get INMO (icwOf m a) ≡ inEcho) → planOf m a q ≡ rest
+    by (inl e) = simp (h .clear, e)
+    by (inr e) = simp (h .clear, e)
+
+-- ---- a service that writes ICW and no other word
+
+pub that-word : (m : List ℕ) (a : ℕ) (q : Port) (w : ℕ) → Placed m a → after m a q ≡ set m (a + atICW) w → icwOf (after m a q) a ≡ w
+that-word m a q w h e = rw e (getD-set-same m (a + atICW) w 0 (omega (arith, h .words, h .inside)))
+
+-- ---- a character that is stored
+
+-- its byte is in the buffer, and IBP names it unless the byte itself lies there. It is done, with an interrupt, only as the buffer's last
+-- byte or where its echo finds the transmitter busy; where it is not, ICW is as read. Every other word is as Kept says.
+pub record Stored (m : List ℕ) (a : ℕ) (q : Port) : Type 0 where
+  pub stored : byteAt (after m a q) (nextOf m a) ≡ storedByte (ascii (icwOf m a)) (q .ch .byte)
+  pub pointer : nextOf m a / 2 ≢ a + atIBP → getD (after m a q) (a + atIBP) 0 ≡ nextOf m a
+  pub interrupt : inputService m a q .effect .raised ≡ doneOf m a q
+  pub same-icw : doneOf m a q ≡ false → icwOf (after m a q) a ≡ icwOf m a
+  pub done-icw : doneOf m a q ≡ true → icwOf (after m a q) a ≡ doneICW (icwOf m a) flagNone (bit (busyOf m a q)) (q .ch .byte)
+
+-- a character whose place in the buffer is not this port's ICW. Its place may be IBP: the byte is stored after the pointer, and is there.
+pub stored : (m : List ℕ) (a : ℕ) (q : Port) → Placed m a → Filling (icwOf m a) → storedByte (ascii (icwOf m a)) (q .ch .byte) < 256 → apart m a q ≡ false → nextOf m a / 2 ≢ a + atICW → Stored m a q
+unfolding inputService carried storedPlan wordIf pick
+stored m a q placed h byte s not-icw =
+    let next = nextOf m a in
+    let done = doneOf m a q in
+    let p = bufferedPlan m a q in
+    let planned = automatic m a q h ∙ pick-false (apart m a q) (reportedPlan m a q) p s in
+    let written : after m a q ≡ carried p a next m = ap (λ (r : Plan). carried r a next m) planned in
+    let pointed = wordIf true m (a + atIBP) next in
+    let there = byteIf true pointed next (p .byte) in
+    record {
+      stored =
+          ap (λ (r : List ℕ). byteAt r next) written
+          ∙ other-byte-of-word done there (a + atICW) (p .icw) next not-icw
+          ∙ read-byte pointed next (p .byte) (rw length-wordIf (omega (arith, placed .words))) byte;
+      pointer = λ not-ibp.
+          ap (λ (r : List ℕ). getD r (a + atIBP) 0) written
+          ∙ other-word done there (a + atICW) (p .icw) (a + atIBP) (λ e. omega (arith, e))
+          ∙ other-word-of-byte true pointed next (p .byte) (a + atIBP) (λ e. not-ibp (sym e))
+          ∙ read-word m (a + atIBP) next (omega (arith, placed .words, placed .inside));
+      interrupt = ap (λ (r : Plan). r .raised) planned;
+      same-icw = λ quiet.
+          ap (λ (r : List ℕ). getD r (a + atICW) 0) written
+          ∙ ap (λ (t : Bool). getD (wordIf t there (a + atICW) (p .icw)) (a + atICW) 0) quiet
+          ∙ other-word-of-byte true pointed next (p .byte) (a + atICW) (λ e. not-icw (sym e))
+          ∙ other-word true m (a + atIBP) next (a + atICW) (λ e. omega (arith, e));
+      done-icw = λ full.
+          ap (λ (r : List ℕ). getD r (a + atICW) 0) written
+          ∙ ap (λ (t : Bool). getD (wordIf t there (a + atICW) (p .icw)) (a + atICW) 0) full
+          ∙ read-word there (a + atICW) (p .icw) (simp (length-byteIf, length-wordIf) (omega (arith, placed .words, placed .inside)));
+    }
