@@ -1,5 +1,6 @@
 -- Laws of choosing, of tests, and of the first row of a table that applies.
 --   pick-true, pick-false what is chosen
+--   bit-below             a bit is below 2
 --   or-false, or-true     what an `or` of tests says of its two tests
 --   Gives, first-gives    a table gives a number: the rows before it do not apply, and its own does; 0 where no row applies
 --   Passed, first-zero    a table of numbers other than 0 gives 0 exactly where no row of it applies
@@ -14,9 +15,9 @@ use mathlib.Core.Logic.{_↔_, _⊎_, inl, inr}
 use Prim.Native.Nat.{ℕ, _<_}
 use native.Mathlib.Decide.{ℕ-discrete}
 use native.Mathlib.Omega.{arith}
-use lib.Dec.{eqb, ltb}
+use lib.Dec.{eqb, ltb, lit<}
 use borrow.Author.Tests.{ltb-true, eqb-false, not-true}
-use Rattle.ground.specs.Choose.{pick, Row, firstOf}
+use Rattle.ground.specs.Choose.{pick, bit, Row, firstOf}
 
 pub pick-true : {A : Type 0} (t : Bool) (a b : A) → t ≡ true → pick t a b ≡ a
 unfolding pick
@@ -25,6 +26,11 @@ pick-true t a b e = rw e
 pub pick-false : {A : Type 0} (t : Bool) (a b : A) → t ≡ false → pick t a b ≡ b
 unfolding pick
 pick-false t a b e = rw e
+
+pub bit-below : (t : Bool) → bit t < 2
+unfolding bit
+bit-below true = lit< tt
+bit-below false = lit< tt
 
 -- where an `or` is false both tests are
 pub or-false : (a b : Bool) → (a || b) ≡ false → (a ≡ false) × (b ≡ false)

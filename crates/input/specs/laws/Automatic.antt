@@ -1,7 +1,7 @@
 -- A character in automatic mode (document 01, Input 4, 5 and 6): the host is told of it by ICW, or it is stored in the buffer.
---   Placed, Filling   a block in the host's memory; automatic mode, with echo or without, INDONE clear as read
+--   Filling           automatic mode, with echo or without, INDONE clear as read
 --   apart, automatic  steps 1 to 3 are passed: an error or a special code of 7-bit ASCII mode is done, any other character is stored
---   that-word         where a service writes ICW and no other word, ICW is what it writes
+--   written, that-word   where ICW is written, it is what the plan says
 --   Stored, stored    a character that is stored: its byte, IBP, the interrupt and ICW
 --   raised-done       a character that raises an interrupt leaves INDONE set
 -- Not here: the glottal stop and what 7-bit ASCII mode makes of a byte, in Glottal; every other word of the memory, in Kept.
@@ -10,29 +10,25 @@ use mathlib.Core.Path.{_≡_, _∙_, ap, refl, sym}
 use mathlib.Core.Bool.{Bool, true, false, not, _&&_, _||_}
 use mathlib.Core.List.{List}
 use mathlib.Core.Logic.{_≢_, _⊎_, inl, inr}
-use Prim.Native.Nat.{ℕ, _+_, _/_, _<_, _≤_}
+use Prim.Native.Nat.{ℕ, _+_, _/_, _<_}
 use native.Mathlib.Omega.{arith}
 use lib.Dec.{eqb, lit<}
-use lib.ListN.{length, getD, set}
+use lib.ListN.{getD, set}
 use lib.Seq.{getD-set-same}
 use Rattle.ground.specs.Choose.{pick, bit}
-use Rattle.ground.specs.laws.Rows.{pick-true, pick-false}
+use Rattle.ground.specs.laws.Rows.{pick-true, pick-false, bit-below}
 use Rattle.words.specs.Field.{get}
 use Rattle.words.specs.Codes.{atICW, atIBP, INDONE, INMO, inAuto, inEcho, flagNone, storedByte, wordByte}
-use Rattle.words.specs.laws.Codes.{word-fits, stored-fits}
+use Rattle.words.specs.laws.Codes.{word-fits}
 use Rattle.words.specs.Byte.{byteAt, wordIf, byteIf}
 use Rattle.words.specs.laws.Byte.{length-wordIf, length-byteIf, other-word, other-word-of-byte, other-byte-of-word, read-word, read-byte}
 use Rattle.words.specs.Special.{isSpecial}
 use Rattle.unit.specs.declared.mux.Port.{Port}
-use Rattle.unit.specs.Refusals.{WORDS}
+use Rattle.unit.specs.laws.Sound.{Placed}
 use Rattle.input.specs.declared.plan.Plan.{Plan}
 use Rattle.input.specs.Input.{ascii, doneICW, donePlan, storedPlan, inputPlan, carried, inputService}
+use Rattle.input.specs.laws.Word.{code-fits, done-done}
 use Rattle.input.specs.laws.Kept.{icwOf, lastOf, codeOf, planOf, nextOf, after}
-
--- the host's memory with a whole block at the word a
-pub record Placed (m : List ℕ) (a : ℕ) : Type 0 where
-  pub words : length m ≡ WORDS
-  pub inside : a + 8 ≤ WORDS
 
 -- ICW asks for automatic mode, with echo or without, and INDONE is clear
 pub record Filling (icw : ℕ) : Type 0 where
@@ -78,8 +74,19 @@ automatic m a q h = by (h .mode) ∙ both-ways (not (eqb (codeOf q) flagNone)) (
     by (inl e) = simp (h .clear, e)
     by (inr e) = simp (h .clear, e)
 
--- ---- a service that writes ICW and no other word
+-- ---- ICW
 
+-- where the plan writes ICW, ICW is what it says: no store comes after
+pub written : (m : List ℕ) (a : ℕ) (q : Port) → Placed m a → planOf m a q .write ≡ true → icwOf (after m a q) a ≡ planOf m a q .icw
+unfolding inputService carried
+written m a q h w =
+    let p = planOf m a q in
+    let next = nextOf m a in
+    let before = byteIf (p .store) (wordIf (p .store) m (a + atIBP) next) next (p .byte) in
+    ap (λ (t : Bool). getD (wordIf t before (a + atICW) (p .icw)) (a + atICW) 0) w
+    ∙ read-word before (a + atICW) (p .icw) (simp (length-byteIf, length-wordIf) (omega (arith, h .words, h .inside)))
+
+-- a service that writes ICW and no other word
 pub that-word : (m : List ℕ) (a : ℕ) (q : Port) (w : ℕ) → Placed m a → after m a q ≡ set m (a + atICW) w → icwOf (after m a q) a ≡ w
 that-word m a q w h e = rw e (getD-set-same m (a + atICW) w 0 (omega (arith, h .words, h .inside)))
 
@@ -102,27 +109,46 @@ stored m a q placed h byte s not-icw =
     let done = doneOf m a q in
     let p = bufferedPlan m a q in
     let planned = automatic m a q h ∙ pick-false (apart m a q) (reportedPlan m a q) p s in
-    let written : after m a q ≡ carried p a next m = ap (λ (r : Plan). carried r a next m) planned in
+    let carries : after m a q ≡ carried p a next m = ap (λ (r : Plan). carried r a next m) planned in
     let pointed = wordIf true m (a + atIBP) next in
     let there = byteIf true pointed next (p .byte) in
     record {
       stored =
-          ap (λ (r : List ℕ). byteAt r next) written
+          ap (λ (r : List ℕ). byteAt r next) carries
           ∙ other-byte-of-word done there (a + atICW) (p .icw) next not-icw
           ∙ read-byte pointed next (p .byte) (rw length-wordIf (omega (arith, placed .words))) byte;
       pointer = λ not-ibp.
-          ap (λ (r : List ℕ). getD r (a + atIBP) 0) written
+          ap (λ (r : List ℕ). getD r (a + atIBP) 0) carries
           ∙ other-word done there (a + atICW) (p .icw) (a + atIBP) (λ e. omega (arith, e))
           ∙ other-word-of-byte true pointed next (p .byte) (a + atIBP) (λ e. not-ibp (sym e))
           ∙ read-word m (a + atIBP) next (omega (arith, placed .words, placed .inside));
       interrupt = ap (λ (r : Plan). r .raised) planned;
       same-icw = λ quiet.
-          ap (λ (r : List ℕ). getD r (a + atICW) 0) written
+          ap (λ (r : List ℕ). getD r (a + atICW) 0) carries
           ∙ ap (λ (t : Bool). getD (wordIf t there (a + atICW) (p .icw)) (a + atICW) 0) quiet
           ∙ other-word-of-byte true pointed next (p .byte) (a + atICW) (λ e. not-icw (sym e))
           ∙ other-word true m (a + atIBP) next (a + atICW) (λ e. omega (arith, e));
-      done-icw = λ full.
-          ap (λ (r : List ℕ). getD r (a + atICW) 0) written
-          ∙ ap (λ (t : Bool). getD (wordIf t there (a + atICW) (p .icw)) (a + atICW) 0) full
-          ∙ read-word there (a + atICW) (p .icw) (simp (length-byteIf, length-wordIf) (omega (arith, placed .words, placed .inside)));
+      done-icw = λ full. written m a q placed (ap (λ (r : Plan). r .write) planned ∙ full) ∙ ap (λ (r : Plan). r .icw) planned;
     }
+
+-- ---- a character that is done
+
+pub raised-done : (m : List ℕ) (a : ℕ) (q : Port) → Placed m a → Filling (icwOf m a) → q .ch .byte < 256 → inputService m a q .effect .raised ≡ true → get INDONE (icwOf (after m a q) a) ≡ 1
+unfolding inputService donePlan storedPlan
+raised-done m a q placed h byte r = by (apart m a q) refl
+  where
+    icw : ℕ
+    icw = icwOf m a
+
+    -- the plan writes a word whose INDONE is set
+    set : (p : Plan) → planOf m a q ≡ p → p .write ≡ true → get INDONE (p .icw) ≡ 1 → get INDONE (icwOf (after m a q) a) ≡ 1
+    set p e w d = ap (get INDONE) (written m a q placed (ap (λ (r : Plan). r .write) e ∙ w) ∙ ap (λ (r : Plan). r .icw) e) ∙ d
+
+    fits : wordByte (ascii icw) (q .ch .byte) < 256
+    fits = word-fits (ascii icw) (q .ch .byte) byte
+
+    by : (t : Bool) → apart m a q ≡ t → get INDONE (icwOf (after m a q) a) ≡ 1
+    by true e = set (reportedPlan m a q) (automatic m a q h ∙ pick-true (apart m a q) (reportedPlan m a q) (bufferedPlan m a q) e) refl (done-done icw (codeOf q) 0 (q .ch .byte) (code-fits (q .control) (q .ch)) (lit< tt) fits)
+    by false e =
+        let planned = automatic m a q h ∙ pick-false (apart m a q) (reportedPlan m a q) (bufferedPlan m a q) e in
+        set (bufferedPlan m a q) planned (sym (ap (λ (p : Plan). p .raised) planned) ∙ r) (done-done icw flagNone (bit (busyOf m a q)) (q .ch .byte) (lit< tt) (bit-below (busyOf m a q)) fits)

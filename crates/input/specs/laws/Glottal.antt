@@ -28,11 +28,12 @@ use Rattle.words.specs.Byte.{byteAt, wordIf, byteIf}
 use Rattle.words.specs.Special.{isSpecial}
 use Rattle.words.specs.laws.Special.{special-high}
 use Rattle.unit.specs.declared.mux.Port.{Port}
+use Rattle.unit.specs.laws.Sound.{Placed}
 use Rattle.input.specs.declared.plan.Plan.{Plan}
 use Rattle.input.specs.Input.{errorCode, ascii, replacedICW, doneICW, replacedPlan, donePlan, inputPlan, carried, inputService}
 use Rattle.input.specs.laws.Word.{code-fits, done-character, done-mark, done-flags, done-ascii, done-mode, done-overload, done-done, replaced-character, replaced-overload, replaced-flags, replaced-done}
 use Rattle.input.specs.laws.Kept.{icwOf, codeOf, planOf, nextOf, after, kept-length, Unstored, indone-set, in-error, special-code, kept-unstored}
-use Rattle.input.specs.laws.Automatic.{Placed, Filling, apart, reportedPlan, bufferedPlan, automatic, that-word, Stored, stored}
+use Rattle.input.specs.laws.Automatic.{Filling, apart, reportedPlan, bufferedPlan, automatic, that-word, Stored, stored}
 
 -- 7-bit ASCII automatic mode, with echo or without, and INDONE clear as read
 pub record Automatic (m : List ℕ) (a : ℕ) : Type 0 where

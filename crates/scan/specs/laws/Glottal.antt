@@ -19,10 +19,9 @@ use Rattle.unit.specs.Record.{portAt, blockAt, addressAt}
 use Rattle.unit.specs.Reply.{Looked}
 use Rattle.unit.specs.Refusals.{WORDS}
 use Rattle.unit.specs.Sound.{Sound}
-use Rattle.unit.specs.laws.Sound.{block-inside}
+use Rattle.unit.specs.laws.Sound.{Placed, block-inside}
 use Rattle.unit.specs.laws.Ports.{held-inside}
 use Rattle.words.specs.Codes.{flagOverload}
-use Rattle.input.specs.laws.Automatic.{Placed}
 use Rattle.input.specs.laws.Glottal.{Automatic, Told, Bar, marked-code, glottal-stop}
 use Rattle.scan.specs.Turn.{service, servedTurn, irqAfter}
 use Rattle.scan.specs.Scan.{serviceTurn, inspection}

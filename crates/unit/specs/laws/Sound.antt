@@ -7,7 +7,7 @@
 --   fresh-sound              what setup makes is sound; the record of zeros is not
 --   by-block                 what holds at each block size holds of any
 --   sizes                    the sizes that pass, in numbers
---   block-inside             a port's control block lies in the memory
+--   Placed, block-inside     a block in the host's memory; a port's control block is one
 -- Not here: what fits and what is sound, in specs/Sound; what a refused call leaves, in Replies.
 -- Assumes nothing.
 use mathlib.Core.Path.{_≡_, refl, ap, _∙_, sym}
@@ -223,6 +223,11 @@ pub sizes : (s : Setting) → SizeFits s → Sizes s
 sizes s f =
     let b = block-bounds (s .block) (f .block) in
     record { least = b .0; most = b .1; some = mul-pos (f .some-port) (omega arith); area = mul-le-mul (f .few-ports) (b .1) }
+
+-- the host's memory with a whole block at the word a
+pub record Placed (m : List ℕ) (a : ℕ) : Type 0 where
+  pub words : length m ≡ WORDS
+  pub inside : a + 8 ≤ WORDS
 
 -- every port of a setting that fits has eight words of control block in the memory
 pub block-inside : (s : Setting) (p : ℕ) → Fits s → p < s .ports → blockAt s p + 8 ≤ 32768
