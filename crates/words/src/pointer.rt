@@ -1,4 +1,4 @@
-// Byte pointers, for input and output alike: the step, and whether it reaches the end.
+// Byte pointers, for input and output alike: the step, and whether the buffer ends with it.
 ghost use mathlib.Core.Path.{_≡_};
 ghost use Rattle.words.specs.Pointer.{stepPtr, atEnd};
 
@@ -9,9 +9,9 @@ pub fn step_ptr(p: u16) -> u16
     std::num::wrapping_add_u16(p, 1)
 }
 
-// Whether the byte that a pointer steps to is the last of its buffer.
+// Whether the buffer ends with the next byte. In 32 bits, where 65535 + 1 is past every end: so no buffer goes on without end.
 pub fn at_end(old: u16, end: u16) -> bool
     ensures { λ r. ⌜ r ≡ atEnd old end ⌝ }
 {
-    step_ptr(old) == end
+    old as u32 + 1 >= end as u32
 }
