@@ -1,5 +1,9 @@
 -- What follows from the definitions of the output service. Nothing here need be believed.
 --   Kept    what a service may change in the memory, and that it changes nothing else
 --   Modes   the plan of each mode, by the mode's name
+--   Word    what the host reads of OCW after it was written
+--   Ends    a buffer of automatic output ends
 pub mod Kept
 pub mod Modes
+pub mod Word
+pub mod Ends

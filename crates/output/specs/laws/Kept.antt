@@ -24,7 +24,7 @@ abbrev pub after : List ℕ → ℕ → Port → List ℕ
 after m a q = outputService m a q .memory
 
 -- the memory with the pointer stepped, or as it was: what the service finds when it writes OCW
-stepped : List ℕ → ℕ → List ℕ
+unfoldable pub stepped : List ℕ → ℕ → List ℕ
 stepped m a = wordIf (isAuto (getD m (a + atOCW) 0)) m (a + atOBP) (stepPtr (getD m (a + atOBP) 0))
 
 -- beside OCW the service leaves what the step left
