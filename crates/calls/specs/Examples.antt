@@ -1,7 +1,8 @@
--- The settled examples of document 01 that are marked *, values of the 1974 manual, and the edges of a request, stated of the definitions.
+-- The settled examples of document 01 that are marked *, values of the 1974 manual, and the edges of two requests, stated of the definitions.
 --   Starred   the examples of document 01, in its order
 --   Manual    001: section 6 and appendix B, as docs/DECISIONS.md makes them
 --   Bases     document 02, K1: where the two numbers of a wrong base begin and end
+--   Buffers   document 02, K2: buffers that are set up too short, and one whose end its own port's input moves
 -- Each is computed: a unit is set up and started, calls are made, and what they leave is compared.
 -- Not here: that they hold, in laws/Examples; the examples that are run and not proved, in the programs.
 -- Assumes nothing.
@@ -22,7 +23,7 @@ use Rattle.unit.specs.declared.reply.Turn.the-variants.{Served}
 use Rattle.unit.specs.Record.{noMux, portAt}
 use Rattle.unit.specs.Reply.{World, world}
 use Rattle.unit.specs.Setup.{setup}
-use Rattle.lines.specs.declared.signal.Signal.the-variants.{Arrival, DeviceStatus}
+use Rattle.lines.specs.declared.signal.Signal.the-variants.{Arrival, TransmitterEmpty, DeviceStatus}
 use Rattle.processor.specs.declared.orders.Order.the-variants.{Iopls, Doc, Dia, Tick}
 use Rattle.calls.specs.declared.call.Act.the-variants.{Line, Processor, Inspect}
 use Rattle.calls.specs.Events.{Single, setsUp, does, result, after, runSingles}
@@ -157,3 +158,65 @@ pub record Bases : Type 0 where
   -- 11 comes before 4: 121 blocks from 32832 on cross a multiple of 1024, as they do from 64 on
   pub before-crossing : codeOf 8 121 32832 ≡ 11
   pub crossing : codeOf 8 121 64 ≡ 4
+
+-- one port, its block at word 64, in automatic input with IBP and LIB, after a character of code 1 is typed and served
+abbrev pub typedInto : ℕ → ℕ → List ℕ
+typedInto ibp lib = unitAfter 8 1 64 (filling ibp lib) (typed 0 1 ∷ look ∷ []) .memory
+
+-- automatic output, OCW 20000 octal, from the buffer after OBP up to LOB: one port, its block at word 64
+abbrev pub emptying : ℕ → ℕ → List ℕ
+emptying obp lob = set (set (set clear 65 0o20000) 69 obp) 71 lob
+
+-- after one inspection
+abbrev pub sentFrom : ℕ → ℕ → List ℕ
+sentFrom obp lob = unitAfter 8 1 64 (emptying obp lob) (look ∷ []) .memory
+
+-- 001, appendix B: octal 40000 in every word, and a character comes
+abbrev pub noise : List ℕ
+noise = unitAfter 8 1 64 (replicate 32768 0o40000) (typed 0 1 ∷ look ∷ []) .memory
+
+-- two bytes to send, LOB at OBP + 2, and between the two output services an input of the same port, of code 31
+abbrev pub crossed : List ℕ → List ℕ
+crossed m = unitAfter 8 1 64 m (look ∷ typed 0 31 ∷ look ∷ does (Line 0 TransmitterEmpty) ∷ look ∷ []) .memory
+
+-- the input in automatic mode, its next place the left half of the word 71, which is LOB; or of the word 100
+abbrev pub onLOB : List ℕ
+onLOB = set (set (set (emptying 2000 2002) 64 0o40000) 68 141) 70 300
+
+abbrev pub besideLOB : List ℕ
+besideLOB = set (set (set (emptying 2000 2002) 64 0o40000) 68 199) 70 300
+
+pub record Buffers : Type 0 where
+  -- IBP 2003 with LIB 2003: stored at 2004, the left half of word 1002, and done
+  pub at-byte : getD (typedInto 2003 2003) 1002 0 ≡ 0x0100
+  pub at-pointer : getD (typedInto 2003 2003) 68 0 ≡ 2004
+  pub at-done : getD (typedInto 2003 2003) 64 0 ≡ 0o140001
+  -- far past its end; with an end of 0
+  pub past-done : getD (typedInto 40000 2003) 64 0 ≡ 0o140001
+  pub zero-done : getD (typedInto 2003 0) 64 0 ≡ 0o140001
+  -- one place before its end it is done; two before, it is not
+  pub one-done : getD (typedInto 2002 2003) 64 0 ≡ 0o140001
+  pub two-not : getD (typedInto 2001 2003) 64 0 ≡ 0o40000
+  -- IBP 65535: done with any end, here 0, 2003 and 65535; the byte in the left half of word 0
+  pub top-zero : getD (typedInto 65535 0) 64 0 ≡ 0o140001
+  pub top-done : getD (typedInto 65535 2003) 64 0 ≡ 0o140001
+  pub top-top : getD (typedInto 65535 65535) 64 0 ≡ 0o140001
+  pub top-pointer : getD (typedInto 65535 65535) 68 0 ≡ 0
+  pub top-byte : getD (typedInto 65535 65535) 0 0 ≡ 0x0100
+  -- IBP 65534 with LIB 65535: done, at the last place of the memory
+  pub last-done : getD (typedInto 65534 65535) 64 0 ≡ 0o140001
+  pub last-byte : getD (typedInto 65534 65535) 32767 0 ≡ 1
+  -- output alike: LOB at OBP, a buffer that would have to go round (OBP 65530, LOB 5), and OBP 65535
+  pub out-at : getD (sentFrom 2003 2003) 65 0 ≡ 0o120000
+  pub out-round : getD (sentFrom 65530 5) 65 0 ≡ 0o120000
+  pub out-round-pointer : getD (sentFrom 65530 5) 69 0 ≡ 65531
+  pub out-top : getD (sentFrom 65535 65535) 65 0 ≡ 0o120000
+  pub out-top-pointer : getD (sentFrom 65535 65535) 69 0 ≡ 0
+  -- appendix B: "data (or noise) is coming in": ICW changes, and IBP is incremented to 40001
+  pub noise-icw : getD noise 64 0 ≡ 0o140001
+  pub noise-ibp : getD noise 68 0 ≡ 0o40001
+  -- two output services end a buffer of two bytes, with an input between them that lies elsewhere; not where the input lies on LOB
+  pub beside-done : getD (crossed besideLOB) 65 0 ≡ 0o120000
+  pub across-pointer : getD (crossed onLOB) 69 0 ≡ 2002
+  pub across-not-done : getD (crossed onLOB) 65 0 ≡ 0o20000
+  pub across-end : getD (crossed onLOB) 71 0 ≡ 0x1FD2

@@ -1,6 +1,6 @@
 -- The worked examples hold: each is computed.
 --   everything        every definition that a step of the unit computes with, named once
---   starred, manual, bases   the examples of document 01, those of the 1974 manual, and the edges of K1
+--   starred, manual, bases, buffers   the examples of document 01, those of the 1974 manual, and the edges of K1 and of K2
 -- Not here: what the examples are, in specs/Examples.
 -- Assumes nothing.
 use mathlib.Core.Path.{refl}
@@ -28,7 +28,7 @@ use Rattle.scan.specs.Turn.{service, took, irqAfter, servedTurn, idleTurn, turn
 use Rattle.scan.specs.Scan.{nextPos, serviceTurn, scanned, inspection}
 use Rattle.calls.specs.Calls.{setUp, performed}
 use Rattle.calls.specs.Events.{result, counted}
-use Rattle.calls.specs.Examples.{turnsOf, Starred, Manual, Bases}
+use Rattle.calls.specs.Examples.{turnsOf, Starred, Manual, Bases, Buffers}
 
 -- every definition that a step of the unit computes with: to unfold this is to unfold them all
 unfoldable pub everything : Unit {0}
@@ -96,4 +96,35 @@ bases =
       ports-first = refl;
       before-crossing = refl;
       crossing = refl;
+    }
+
+pub buffers : Buffers
+unfolding everything
+buffers =
+    record {
+      at-byte = refl;
+      at-pointer = refl;
+      at-done = refl;
+      past-done = refl;
+      zero-done = refl;
+      one-done = refl;
+      two-not = refl;
+      top-zero = refl;
+      top-done = refl;
+      top-top = refl;
+      top-pointer = refl;
+      top-byte = refl;
+      last-done = refl;
+      last-byte = refl;
+      out-at = refl;
+      out-round = refl;
+      out-round-pointer = refl;
+      out-top = refl;
+      out-top-pointer = refl;
+      noise-icw = refl;
+      noise-ibp = refl;
+      beside-done = refl;
+      across-pointer = refl;
+      across-not-done = refl;
+      across-end = refl;
     }
