@@ -55,7 +55,7 @@ unfoldable pub donePlan : ℕ → ℕ → ℕ → ℕ → Plan
 donePlan icw code mark c =
     record { store = false; byte = 0; write = true; icw = doneICW icw code mark c; echo = false; raised = true }
 
--- step 6: stored; done if it is the buffer's last byte or its echo finds the transmitter busy
+-- step 6: stored; done if the buffer ends with it or its echo finds the transmitter busy
 unfoldable pub storedPlan : ℕ → ℕ → Bool → Bool → Bool → Plan
 storedPlan icw c last echo empty =
     let busy = echo && not empty in
@@ -68,7 +68,7 @@ storedPlan icw c last echo empty =
       raised = last || busy;
     }
 
--- what is done with the character c, by ICW as read, the error code, whether the next byte is the buffer's last, whether c is special,
+-- what is done with the character c, by ICW as read, the error code, whether the buffer ends with the next byte, whether c is special,
 -- and whether the transmitter is empty
 unfoldable pub inputPlan : ℕ → ℕ → ℕ → Bool → Bool → Bool → Plan
 inputPlan icw code c last special empty =

@@ -33,7 +33,7 @@ isAuto ocw = not (outDone ocw) && eqb (get OUTMO ocw) outAuto
 abbrev pub idlePlan : Port → Plan
 idlePlan q = record { sent = false; byte = 0; done = false; control = q .control; devcontrol = q .devcontrol }
 
--- 01: the fetched byte; done if it is the buffer's last, or bit 3 is 1 and the byte is special
+-- 01: the fetched byte; done if the buffer ends with it, or bit 3 is 1 and the byte is special
 unfoldable pub autoPlan : ℕ → Port → ℕ → Bool → Bool → Plan
 autoPlan ocw q fetched last special =
     record {
@@ -54,7 +54,7 @@ unfoldable pub singlePlan : ℕ → Port → Plan
 singlePlan ocw q =
     record { sent = true; byte = get CHARACTER ocw; done = true; control = q .control; devcontrol = q .devcontrol }
 
--- what is done, by OCW as read, the port, the byte fetched, whether it is the buffer's last and whether it is special
+-- what is done, by OCW as read, the port, the byte fetched, whether the buffer ends with it and whether it is special
 unfoldable pub outputPlan : ℕ → Port → ℕ → Bool → Bool → Plan
 outputPlan ocw q fetched last special =
     -- OUTDONE already set

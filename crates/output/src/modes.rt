@@ -27,7 +27,7 @@ fn idle_plan(q: Port) -> Plan
     }
 }
 
-// 01: done if the byte is the buffer's last, or bit 3 asks for an interrupt at a special one.
+// 01: done if the buffer ends with the byte, or bit 3 asks for an interrupt at a special one.
 fn auto_plan(ocw: u16, q: Port, fetched: u8, last: bool, special: bool) -> Plan
     ensures { λ r. ⌜ r ≡ autoPlan ocw q fetched last special ⌝ }
 {

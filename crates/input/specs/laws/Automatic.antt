@@ -92,8 +92,8 @@ that-word m a q w h e = rw e (getD-set-same m (a + atICW) w 0 (omega (arith, h .
 
 -- ---- a character that is stored
 
--- its byte is in the buffer, and IBP names it unless the byte itself lies there. It is done, with an interrupt, only as the buffer's last
--- byte or where its echo finds the transmitter busy; where it is not, ICW is as read. Every other word is as Kept says.
+-- its byte is in the buffer, and IBP names it unless the byte itself lies there. It is done, with an interrupt, only where the
+-- buffer ends with it or its echo finds the transmitter busy; where it is not, ICW is as read. Every other word is as Kept says.
 pub record Stored (m : List ℕ) (a : ℕ) (q : Port) : Type 0 where
   pub stored : byteAt (after m a q) (nextOf m a) ≡ storedByte (ascii (icwOf m a)) (q .ch .byte)
   pub pointer : nextOf m a / 2 ≢ a + atIBP → getD (after m a q) (a + atIBP) 0 ≡ nextOf m a

@@ -118,6 +118,20 @@ serves a v =
           s .0,
         )
 
+-- so a buffer of one byte is open that is the left half of its own ICW, the word 64, and one of two bytes whose last is
+pub last-on-icw : Open 64 (record { control = 0o40000; pointer = 127; end = 128 }) × Open 64 (record { control = 0o40000; pointer = 126; end = 128 })
+unfolding get
+last-on-icw = (one, two)
+  where
+    one : Open 64 (record { control = 0o40000; pointer = 127; end = 128 })
+    one = record { filling = record { clear = refl; mode = inl refl }; word = lit< tt; beside = λ x h k. absurd (omega (arith, h, k)) }
+
+    at-127 : (x : ℕ) → 126 < x → x < 128 → Beside 64 x
+    at-127 x h k = record { icw = λ e. omega (arith, h, k, e); ibp = λ e. omega (arith, h, k, e); lib = λ e. omega (arith, h, k, e) }
+
+    two : Open 64 (record { control = 0o40000; pointer = 126; end = 128 })
+    two = record { filling = record { clear = refl; mode = inl refl }; word = lit< tt; beside = at-127 }
+
 -- a buffer ends: with ICW, IBP and LIB as the port's own input services left them, as many of these as max(1, LIB − IBP), or more, set INDONE.
 -- Every other word may have changed between them
 pub input-ends : (a : ℕ) (b : Buffer) (vs : List (Visit a)) → Open a b → Follow (found a) (leaves a) b vs → room b ≤ length vs → Done (left (found a) (leaves a) b vs)

@@ -32,7 +32,7 @@ use Rattle.input.specs.Input.{errorCode, ascii, inputPlan, replacedPlan,
 abbrev pub icwOf : List ℕ → ℕ → ℕ
 icwOf m a = getD m (a + atICW) 0
 
--- the next byte is the buffer's last
+-- the buffer ends with its next byte
 abbrev pub lastOf : List ℕ → ℕ → Bool
 lastOf m a = atEnd (getD m (a + atIBP) 0) (getD m (a + atLIB) 0)
 

@@ -16,12 +16,12 @@ use lib.Dec.{eqb, leb}
 use borrow.Author.Tests.{leb-true, leb-false, le-leb, lt-leb, eqb-true, eqb-false, ne-eqb}
 use Rattle.words.specs.Pointer.{stepPtr, atEnd}
 
--- 2003 with the end 2003 or 2004 is its last byte, with 2005 it is not
+-- after 2003 a buffer with the end 2003 or 2004 ends with the next byte, one with the end 2005 does not
 pub two-thousand : (atEnd 2003 2003 ≡ true) × (atEnd 2003 2004 ≡ true) × (atEnd 2003 2005 ≡ false)
 unfolding atEnd
 two-thousand = (refl, refl, refl)
 
--- so is 65535 with the ends 65535 and 0, and 65534 with 65535; 65533 with 65535 is not
+-- after 65535 one with the end 65535 or 0 does, after 65534 one with 65535, and after 65533 it does not
 pub last-ends : (atEnd 65535 65535 ≡ true) × (atEnd 65535 0 ≡ true) × (atEnd 65534 65535 ≡ true) × (atEnd 65533 65535 ≡ false)
 unfolding atEnd
 last-ends = (refl, refl, refl, refl)
