@@ -1,9 +1,11 @@
 -- A buffer of automatic input ends (document 02, K2).
 --   bufferOf, Visit   ICW, IBP and LIB of a port; one of its input services, with the memory and the port that it finds
---   Beside, Open      a byte on none of these words; automatic mode with INDONE clear, and a buffer of such bytes
+--   Beside, Open, open-edges   a byte on none of these words; automatic mode with INDONE clear, and a buffer of such bytes; its last may lie there
 --   quiet, steps      a character that is not done is stored: ICW as read, IBP one on with no jump to 0, LIB − IBP one less
 --   input-ends        so after max(1, LIB − IBP) services INDONE is set, whatever becomes of every other word meanwhile
---   Ended, first-ends, from-top   a stored character is done where LIB is at most IBP + 1: so after 65535, its byte in the left half of word 0
+--   first-ends, from-top   a character is done where LIB is at most IBP + 1: so after 65535, and if it is stored, its byte is the left half of word 0
+--   inputWas, same-service   the service by the rule as it was: the same where IBP + 1 is below LIB or equal to it
+--   short ..          IBP 2003 with LIB 2003: one service ends it, and by the rule as it was it ran on
 -- Not here: services one after the other, and the count, in words, laws/Buffer; when the end is reached, in words, laws/Pointer.
 -- Assumes nothing.
 use mathlib.Core.Path.{_≡_, _∙_, ap, refl, sym}
@@ -18,13 +20,14 @@ use Rattle.ground.specs.Choose.{pick, bit}
 use Rattle.ground.specs.Machine.{run}
 use Rattle.ground.specs.laws.Rows.{pick-true, pick-false, or-false}
 use Rattle.words.specs.Field.{get, put}
-use Rattle.words.specs.Codes.{atICW, atIBP, atLIB, INDONE, LEFT, storedByte}
+use Rattle.words.specs.Codes.{atICW, atIBP, atLIB, INDONE, LEFT, storedByte, echoedByte}
 use Rattle.words.specs.laws.Codes.{stored-fits}
-use Rattle.words.specs.laws.Pointer.{at-end-iff, goes-on, atEndWas}
+use Rattle.words.specs.laws.Pointer.{at-end-iff, goes-on, atEndWas, as-before}
 use Rattle.words.specs.laws.Buffer.{Buffer, room, Steps, Serves, Follow, left, ends}
 use Rattle.words.specs.Byte.{halfAt, byteAt, storeByte, wordIf, byteIf}
 use Rattle.words.specs.Special.{isSpecial}
 use Rattle.unit.specs.declared.mux.Port.{Port}
+use Rattle.unit.specs.Reply.{Serviced, serviced}
 use Rattle.unit.specs.laws.Sound.{Placed}
 use Rattle.input.specs.declared.plan.Plan.{Plan}
 use Rattle.input.specs.Input.{errorCode, ascii, donePlan, storedPlan, inputPlan, carried, inputService}
@@ -118,19 +121,20 @@ serves a v =
           s .0,
         )
 
--- so a buffer of one byte is open that is the left half of its own ICW, the word 64, and one of two bytes whose last is
-pub last-on-icw : Open 64 (record { control = 0o40000; pointer = 127; end = 128 }) × Open 64 (record { control = 0o40000; pointer = 126; end = 128 })
+-- so a buffer of two bytes is open whose last is the left half of its own ICW, the word 64, and one whose last is the last byte of the memory
+pub open-edges : Open 64 (record { control = 0o40000; pointer = 126; end = 128 }) × Open 64 (record { control = 0o60000; pointer = 65533; end = 65535 })
 unfolding get
-last-on-icw = (one, two)
-  where
-    one : Open 64 (record { control = 0o40000; pointer = 127; end = 128 })
-    one = record { filling = record { clear = refl; mode = inl refl }; word = lit< tt; beside = λ x h k. absurd (omega (arith, h, k)) }
-
-    at-127 : (x : ℕ) → 126 < x → x < 128 → Beside 64 x
-    at-127 x h k = record { icw = λ e. omega (arith, h, k, e); ibp = λ e. omega (arith, h, k, e); lib = λ e. omega (arith, h, k, e) }
-
-    two : Open 64 (record { control = 0o40000; pointer = 126; end = 128 })
-    two = record { filling = record { clear = refl; mode = inl refl }; word = lit< tt; beside = at-127 }
+open-edges =
+    (record {
+      filling = record { clear = refl; mode = inl refl };
+      word = lit< tt;
+      beside = λ x h k. record { icw = λ e. omega (arith, h, k, e); ibp = λ e. omega (arith, h, k, e); lib = λ e. omega (arith, h, k, e) };
+    },
+    record {
+      filling = record { clear = refl; mode = inr refl };
+      word = lit< tt;
+      beside = λ x h k. record { icw = λ e. omega (arith, h, k, e); ibp = λ e. omega (arith, h, k, e); lib = λ e. omega (arith, h, k, e) };
+    })
 
 -- a buffer ends: with ICW, IBP and LIB as the port's own input services left them, as many of these as max(1, LIB − IBP), or more, set INDONE.
 -- Every other word may have changed between them
@@ -159,21 +163,33 @@ module _ (m : List ℕ) (a : ℕ) (q : Port) (filling : Filling (icwOf m a)) whe
 
 -- ---- the rule as it was
 
--- the buffer that the service left by the rule before K2
-abbrev pub wasLeft : (a : ℕ) → Visit a → Buffer
-wasLeft a v =
-    let m = v .memory in
-    let q = v .port in
-    let last = atEndWas (found a v .pointer) (found a v .end) in
-    let plan = inputPlan (icwOf m a) (codeOf q) (q .ch .byte) last (isSpecial (q .ch .byte)) (q .empty) in
-    bufferOf (carried plan a (nextOf m a) m) a
+-- the service by the rule before K2, kept for the laws below
+unfoldable pub inputWas : List ℕ → ℕ → Port → Serviced
+inputWas m a q =
+    let c = q .ch .byte in
+    let last = atEndWas (bufferOf m a .pointer) (bufferOf m a .end) in
+    let plan = inputPlan (icwOf m a) (codeOf q) c last (isSpecial c) (q .empty) in
+    serviced
+    (record {
+      sent = plan .echo;
+      byte = pick (plan .echo) (echoedByte (ascii (icwOf m a)) c) 0;
+      raised = plan .raised;
+      control = q .control;
+      devcontrol = q .devcontrol;
+    })
+    (carried plan a (nextOf m a) m)
 
--- IBP 2003 with LIB 2003 in a block at word 64: a letter with no error, in automatic mode
+-- where IBP + 1 is below LIB or equal to it, a service is what it was
+pub same-service : (m : List ℕ) (a : ℕ) (q : Port) → bufferOf m a .end < 65536 → bufferOf m a .pointer + 1 ≤ bufferOf m a .end → inputService m a q ≡ inputWas m a q
+unfolding inputService inputWas
+same-service m a q word h = rw (as-before (bufferOf m a .pointer) (bufferOf m a .end) word h)
+
+-- IBP 2003 with LIB 2003 in a block at word 64: a character of code 255 with no error, in automatic mode
 abbrev pub short : Visit 64
 short =
     record {
       memory = set (set (set (replicate 32768 0) 64 0o40000) 68 2003) 70 2003;
-      port = record { held = true; ch = record { byte = 65; parity = false; brk = false; overload = false }; empty = true; control = 0; devcontrol = true; devstatus = false };
+      port = record { held = true; ch = record { byte = 255; parity = false; brk = false; overload = false }; empty = true; control = 0; devcontrol = true; devstatus = false };
       placed = record { words = refl; inside = lit≤ tt };
       byte = lit< tt;
     }
@@ -193,6 +209,6 @@ unfolding run
 short-ends = input-ends 64 (found 64 short) (short ∷ []) short-open (refl, tt) (lit≤ tt)
 
 -- by the rule as it was INDONE was clear after it, and IBP past LIB
-pub short-ran-on : wasLeft 64 short ≡ record { control = 0o40000; pointer = 2004; end = 2003 }
-unfolding atEndWas inputPlan carried errorCode ascii storedPlan get put storedByte wordIf byteIf storeByte halfAt pick bit isSpecial
+pub short-ran-on : bufferOf (inputWas (short .memory) 64 (short .port) .memory) 64 ≡ record { control = 0o40000; pointer = 2004; end = 2003 }
+unfolding inputWas atEndWas inputPlan carried errorCode ascii storedPlan get put storedByte wordIf byteIf storeByte halfAt pick bit isSpecial
 short-ran-on = refl

@@ -4,7 +4,8 @@
 --   steps             a byte that is not done: OBP one on with no jump to 0, LOB − OBP one less
 --   output-ends       so after max(1, LOB − OBP) output services OUTDONE is set, whatever becomes of every other word meanwhile
 --   first-ends, from-top   a byte is done where LOB is at most OBP + 1: so after 65535, where it is the left half of word 0
---   short ..          LOB at OBP: one service ends it, and by the rule as it was it ran on
+--   outputWas, same-service   the service by the rule as it was: the same where OBP + 1 is below LOB or equal to it
+--   short ..          OBP 2003 with LOB 2003: one service ends it, and by the rule as it was it ran on
 -- Not here: services one after the other, and the count, in words, laws/Buffer; when the end is reached, in words, laws/Pointer; an input of
 -- the same port that lies on LOB, in calls, Examples.
 -- Assumes nothing.
@@ -23,12 +24,13 @@ use Rattle.ground.specs.laws.Rows.{or-false}
 use Rattle.words.specs.Field.{get, put}
 use Rattle.words.specs.Codes.{atOCW, atOBP, atLOB, OUTDONE, OUTMO, outAuto, SPECIAL-REQUEST, LEFT}
 use Rattle.words.specs.Pointer.{stepPtr, atEnd}
-use Rattle.words.specs.laws.Pointer.{at-end-iff, goes-on, atEndWas}
+use Rattle.words.specs.laws.Pointer.{at-end-iff, goes-on, atEndWas, as-before}
 use Rattle.words.specs.laws.Buffer.{Buffer, room, Steps, Serves, Follow, left, ends}
 use Rattle.words.specs.Byte.{halfAt, byteAt, wordIf}
 use Rattle.words.specs.laws.Byte.{length-wordIf, other-word, read-word}
 use Rattle.words.specs.Special.{isSpecial}
 use Rattle.unit.specs.declared.mux.Port.{Port}
+use Rattle.unit.specs.Reply.{Serviced, serviced}
 use Rattle.unit.specs.laws.Sound.{Placed}
 use Rattle.output.specs.declared.plan.Plan.{Plan}
 use Rattle.output.specs.Output.{outDone, isAuto, autoPlan, outputPlan, differs, statusBits, becomesChanged, writtenOCW, outputService}
@@ -116,6 +118,11 @@ pub record Open (b : Buffer) : Type 0 where
   pub sending : Sending (b .control)
   pub word : b .end < 65536
 
+-- so is a buffer whose last byte is the last of the memory
+pub open-edge : Open (record { control = 0o20000; pointer = 65533; end = 65535 })
+unfolding get
+open-edge = record { sending = record { clear = refl; mode = refl }; word = lit< tt }
+
 -- an open buffer is then done, or steps on and stays open; a buffer that is done stays done
 pub serves : (a : ℕ) (v : Visit a) → Serves Open Done (found a v) (leaves a v)
 unfolding bit
@@ -171,15 +178,22 @@ module _ (m : List ℕ) (a : ℕ) (q : Port) (sending : Sending (ocwOf m a)) whe
 
 -- ---- the rule as it was
 
--- the buffer that the service left by the rule before K2
-abbrev pub wasLeft : (a : ℕ) → Visit a → Buffer
-wasLeft a v =
-    let m = v .memory in
-    let q = v .port in
-    let ocw = found a v .control in
-    let byte = byteAt (stepped m a) (stepPtr (found a v .pointer)) in
-    let plan = outputPlan ocw q byte (atEndWas (found a v .pointer) (found a v .end)) (isSpecial byte) in
-    bufferOf (set (stepped m a) (a + atOCW) (writtenOCW ocw (q .devstatus) (not (outDone ocw) && (plan .done || becomesChanged ocw (q .devstatus))))) a
+-- the service by the rule before K2, kept for the laws below
+unfoldable pub outputWas : List ℕ → ℕ → Port → Serviced
+outputWas m a q =
+    let ocw = ocwOf m a in
+    let last = atEndWas (bufferOf m a .pointer) (bufferOf m a .end) in
+    let plan = outputPlan ocw q (fetchedOf m a) last (isSpecial (fetchedOf m a)) in
+    let done = not (outDone ocw) && (plan .done || becomesChanged ocw (q .devstatus)) in
+    serviced
+    (record
+    { sent = plan .sent; byte = plan .byte; raised = done; control = plan .control; devcontrol = plan .devcontrol })
+    (set (stepped m a) (a + atOCW) (writtenOCW ocw (q .devstatus) done))
+
+-- where OBP + 1 is below LOB or equal to it, a service is what it was
+pub same-service : (m : List ℕ) (a : ℕ) (q : Port) → bufferOf m a .end < 65536 → bufferOf m a .pointer + 1 ≤ bufferOf m a .end → outputService m a q ≡ outputWas m a q
+unfolding outputService outputWas stepped
+same-service m a q word h = rw (as-before (bufferOf m a .pointer) (bufferOf m a .end) word h)
 
 -- OBP 2003 with LOB 2003 in a block at word 64, in automatic mode
 abbrev pub short : Visit 64
@@ -200,6 +214,6 @@ unfolding run
 short-ends = output-ends 64 (found 64 short) (short ∷ []) short-open (refl, tt) (lit≤ tt)
 
 -- by the rule as it was OUTDONE was clear after it, and OBP past LOB
-pub short-ran-on : wasLeft 64 short ≡ record { control = 0o20000; pointer = 2004; end = 2003 }
-unfolding atEndWas stepped outputPlan outDone isAuto autoPlan differs statusBits becomesChanged writtenOCW get put byteAt halfAt wordIf pick bit isSpecial
+pub short-ran-on : bufferOf (outputWas (short .memory) 64 (short .port) .memory) 64 ≡ record { control = 0o20000; pointer = 2004; end = 2003 }
+unfolding outputWas atEndWas stepped outputPlan outDone isAuto autoPlan differs statusBits becomesChanged writtenOCW get put byteAt halfAt wordIf pick bit isSpecial
 short-ran-on = refl
