@@ -25,6 +25,40 @@ ROWS = {int(line.split(':')[0]): line for line in SOURCE.splitlines(keepends=Tru
 NOT_3 = "    11: lambda b, ports, base: b and base % (8 * b) == 0 and base > 32767,\n"
 NOT_2_3 = NOT_3.replace("b and", "b and 0 < ports <= 128 and")
 
+# The rule of a buffer's end (02, K2), and where input and output ask it.
+ENDS, INPUT_ENDS, OUTPUT_ENDS = "return pointer + 1 >= end", "self.ends(ibp, lib)", "self.ends(obp, lob)"
+
+# Wrong rules of a buffer's end, each put in for input alone and for output alone.
+OLD_RULE = "(pointer + 1) % 65536 == end"               # document 01's, before K2
+WRONG_ENDS = {
+    'the old rule': OLD_RULE,
+    'the step to 0 taken before the comparison': "(pointer + 1) % 65536 >= end",
+    'above the end for at least': "pointer + 1 > end",
+    'one early, at the last place alone': "pointer + 1 >= min(end, 65534)",
+    'pointer and end taken with a sign': "(pointer + 32768) % 65536 + 1 >= (end + 32768) % 65536",
+    'new pointer and end taken with a sign': "(pointer + 32769) % 65536 >= (end + 32768) % 65536",
+    'difference taken with a sign': "(pointer + 1 - end) % 65536 < 32768",
+    'cut to 15 bits': "(pointer + 1) % 32768 >= end % 32768",
+    'words compared': "(pointer + 1) // 2 >= end // 2",
+    'left halves compared': "(pointer + 1) // 256 > end // 256 or pointer + 1 == end",
+    'not at the end': "pointer + 1 >= end and pointer != end",
+    'not past the end': "pointer in (end, end - 1)",
+    'not far past the end': "end <= pointer + 1 <= end + 256",
+    'end 0 read as 65536': "pointer + 1 >= (end or 65536)",
+    'end 0 never reached': "end > 0 and pointer + 1 >= end",
+    'end 65535 never reached': "pointer + 1 >= end != 65535",
+    '65535 never done': "pointer < 65535 and pointer + 1 >= end",
+    '65535 not done with end 65535': "pointer + 1 >= end and (pointer, end) != (65535, 65535)",
+    '65535 not done with end 0': "pointer + 1 >= end and (pointer, end) != (65535, 0)",
+    'wrapping buffers run on': "pointer + 1 >= end and not (pointer > 65500 and 0 < end < 100)",
+}
+
+
+def of(pointer, end, rule):
+    """A rule of `pointer` and `end`, written for the names that a service has for them."""
+    return '(' + rule.replace('pointer', pointer).replace('end', end) + ')'
+
+
 MUTANTS = [
     # Document 01, errors seen.
     ('seen: special stored and reported as well',
@@ -204,10 +238,9 @@ MUTANTS = [
      "memory.put_byte(ibp, BYTE_OF[stored])"),
     ('stray store far from the port', "memory.put_byte(pointer, BYTE_OF[stored])",
      "memory.put_byte(pointer, BYTE_OF[stored])\n            memory.put(WORDS - 1 - pointer // 2, 0)"),
-    ('input done one early', "done = pointer == lib", "done = (pointer + 1) % 65536 == lib"),
-    ('input done one late', "done = pointer == lib", "done = ibp == lib"),
-    ('LIB read after the store',
-     "done = pointer == lib", "done = pointer == memory.word(block + 6)"),
+    ('input done one early', INPUT_ENDS, "self.ends(ibp + 1, lib)"),
+    ('input done one late', INPUT_ENDS, "self.ends(ibp - 1, lib)"),
+    ('LIB read after the store', INPUT_ENDS, "self.ends(ibp, memory.word(block + 6))"),
     ('ICW read again after the store', "            icw[0], icw[4:6], icw[6], icw[8:16] =",
      "            icw = bits_of(memory.word(block))\n            icw[0], icw[4:6], icw[6], icw[8:16] ="),
     ('echo into a full transmitter', "                if port.empty:\n                    sent",
@@ -242,8 +275,8 @@ MUTANTS = [
      "            memory.put(block + 5, pointer)\n            sent, byte = 1, memory.byte(pointer)\n",
      "            sent, byte = 1, memory.byte(pointer)\n            memory.put(block + 5, pointer)\n"),
     ('halves exchanged on output', "memory.byte(pointer)", "memory.byte(pointer ^ 1)"),
-    ('output done one early', "pointer == lob", "(pointer + 1) % 65536 == lob"),
-    ('output done one late', "pointer == lob", "obp == lob"),
+    ('output done one early', OUTPUT_ENDS, "self.ends(obp + 1, lob)"),
+    ('output done one late', OUTPUT_ENDS, "self.ends(obp - 1, lob)"),
     ('special always ends output', "(asks_special == 1 and special)", "special"),
     ('special byte reported in OCW', "            self.note_fetch(block,",
      "            ocw[8:16] = BYTE_BITS[byte] if asks_special and special else ocw[8:16]\n"
@@ -254,6 +287,42 @@ MUTANTS = [
     ('single output leaves the transmitter empty',
      "        if sent:\n            self.change(p, empty=0)\n",
      "        if sent and mode == [0, 1]:\n            self.change(p, empty=0)\n"),
+
+    # The end of a buffer (02, K2).
+    ('buffer ends: the old rule', ENDS, f"return {OLD_RULE}"),
+    *[(f'input buffer ends: {name}', INPUT_ENDS, of('ibp', 'lib', rule))
+      for name, rule in WRONG_ENDS.items()],
+    *[(f'output buffer ends: {name}', OUTPUT_ENDS, of('obp', 'lob', rule))
+      for name, rule in WRONG_ENDS.items()],
+    ('IBP stops at 65535', "pointer = self.step(ibp)", "pointer = min(ibp + 1, 65535)"),
+    ('OBP stops at 65535', "pointer = self.step(obp)", "pointer = min(obp + 1, 65535)"),
+    ('IBP past the end goes back to it', "pointer = self.step(ibp)", "pointer = min(self.step(ibp), lib)"),
+    ('OBP past the end goes back to it', "pointer = self.step(obp)", "pointer = min(self.step(obp), lob)"),
+    ('IBP read after the store', INPUT_ENDS, "self.ends((memory.word(block + 4) - 1) % 65536, lib)"),
+    ('IBP and LIB exchanged', INPUT_ENDS, "self.ends(lib, ibp)"),
+    ('OBP and LOB exchanged', OUTPUT_ENDS, "self.ends(lob, obp)"),
+    ('input asks for LOB', INPUT_ENDS, "self.ends(ibp, memory.word(block + 7))"),
+    ('output asks for LIB', OUTPUT_ENDS, "self.ends(obp, memory.word(block + 6))"),
+    ('LOB kept while a buffer runs on', f"last, special = {OUTPUT_ENDS}, ",
+     "last = self.ends(obp, getattr(self, 'kept', {}).get(obp, lob))\n"
+     "            self.kept = {} if last else {pointer: lob}\n            special = "),
+    ('no byte stored at or past the end', "            memory.put_byte(pointer, BYTE_OF[stored])\n",
+     "            if ibp < lib:\n                memory.put_byte(pointer, BYTE_OF[stored])\n"),
+    ('no byte sent at or past the end', "sent, byte = 1, memory.byte(pointer)",
+     "sent, byte = (1, memory.byte(pointer)) if obp < lob else (0, 0)"),
+    ('IBP not written at or past the end', "            memory.put(block + 4, pointer)\n",
+     "            if ibp < lib:\n                memory.put(block + 4, pointer)\n"),
+    ('OBP not written at or past the end', "            memory.put(block + 5, pointer)\n",
+     "            if obp < lob:\n                memory.put(block + 5, pointer)\n"),
+    ('no echo at or past the end', "            if mode == [1, 1]:\n",
+     "            if mode == [1, 1] and ibp < lib:\n"),
+    ('no echo mark at or past the end',
+     "echo_mark, done = 1, True", "echo_mark, done = int(ibp < lib), True"),
+    ('no interrupt past the end of input', "            self.interrupt(p, 2)\n",
+     "            if ibp <= lib:\n                self.interrupt(p, 2)\n"),
+    ('short buffer with the special request ends at a special byte alone',
+     "done = last or (asks_special == 1 and special)",
+     "done = special if asks_special and obp >= lob else last or (asks_special == 1 and special)"),
 
     # Interrupt and sweep.
     ('status bit 1 never set', "            status[1] = 1\n", ""),

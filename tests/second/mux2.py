@@ -1,7 +1,7 @@
 """A second EDS-8, for comparison with the proved one.
 
-Written from document 01, request K1 of document 02 (K4 asks nothing of it), the 1974 manual (001) and
-the readings of docs/DECISIONS.md, without sight of the definitions or the code. It takes
+Written from document 01, requests K1 and K2 of document 02 (K4 asks nothing of it), the 1974 manual
+(001) and the readings of docs/DECISIONS.md, without sight of the definitions or the code. It takes
 another road than the proved program: a word is a list of sixteen 0s and 1s indexed by the
 manual's bit numbers, a port is an immutable object, and memory is a bytearray
 in which a byte pointer is simply an index. Each branch of document 01 has a
@@ -97,6 +97,12 @@ REFUSALS = {**SETUP_CALLS, **{call: (6,) for call in PLAIN_CALLS},
 # and was refused with 4.
 UNREACHABLE = {'setup refused 5', 'unsound: setup gives 5'}
 
+# How an old pointer may stand to the end of its automatic buffer (02, K2), for input and output each.
+ENDS = ('not last, pointer below the end', 'end reached exactly', 'last place of memory: 65534, end 65535',
+        'pointer already at the end', 'pointer already past the end',
+        'done from 65535 to 0, end 65535', 'done from 65535 to 0, end 0', 'done from 65535 to 0, end between',
+        'done, end 0')
+
 BRANCHES = (
     [f'{call} refused {code}' for call, codes in REFUSALS.items() for code in codes]
     + [f'{call} accepted' for call in REFUSALS]
@@ -138,6 +144,7 @@ BRANCHES = (
        'interrupt: base below 128 blocks', 'interrupt: base of 128 blocks or more',
        'sweep: stopped unit', 'sweep of none', 'sweep: stops on an interrupt', 'sweep: all made',
        'sweep: interrupt at the last one', 'sweep of 4096', 'sweep: byte listed', 'sweep: no byte']
+    + [f'{rule}: {where}' for rule in ('input 6', 'output 01') for where in ENDS]
     + [f'speed {code:03b}' for code in range(8)])
 
 
@@ -368,6 +375,26 @@ class Mux2:
         self.hit('pointer steps')
         return pointer + 1
 
+    def ends(self, pointer, end):
+        """Whether old pointer + 1, taken without the step from 65535 to 0, is at least the end (02, K2)."""
+        return pointer + 1 >= end
+
+    def note_end(self, rule, pointer, end, last):
+        """Counts how the old pointer stood to the end; changes nothing."""
+        if not last:
+            where = 'not last, pointer below the end'
+        elif pointer == 65535:
+            where = 'done from 65535 to 0, end ' + {0: '0', 65535: '65535'}.get(end, 'between')
+        elif pointer < end:
+            where = 'end reached exactly'
+        else:
+            where = 'pointer already at the end' if pointer == end else 'pointer already past the end'
+        self.hit(f'{rule}: {where}')
+        if last and (pointer, end) == (65534, 65535):
+            self.hit(f'{rule}: last place of memory: 65534, end 65535')
+        if last and end == 0:
+            self.hit(f'{rule}: done, end 0')
+
     def special(self, character):
         """Whether the low seven bits are below octal 40 or above octal 173."""
         low = BYTE_OF[(0,) + character[1:]]
@@ -421,14 +448,15 @@ class Mux2:
             pointer = self.step(ibp)
             memory.put(block + 4, pointer)
             memory.put_byte(pointer, BYTE_OF[stored])
-            done = pointer == lib
+            done = last = self.ends(ibp, lib)
             if mode == [1, 1]:
                 if port.empty:
                     sent, byte = 1, BYTE_OF[character]
                     self.change(p, empty=0)
                 else:
                     echo_mark, done = 1, True
-            self.note_store(block, pointer, lib, mode, port, done, ascii7, character)
+            self.note_store(block, pointer, last, mode, port, done, ascii7, character)
+            self.note_end('input 6', ibp, lib, last)
         if done:
             self.hit('input: done')
             if stored != character:
@@ -440,10 +468,9 @@ class Mux2:
             self.hit('input: ICW not written')
         return Answer(INPUT, p, sent, byte, int(done))
 
-    def note_store(self, block, pointer, lib, mode, port, done, ascii7, character):
+    def note_store(self, block, pointer, last, mode, port, done, ascii7, character):
         """Counts what rule 6 met; changes nothing."""
         self.hit('input 6: right half' if pointer % 2 else 'input 6: left half')
-        last = pointer == lib
         self.hit('input 6: last byte' if last else 'input 6: not last')
         if ascii7:
             self.hit('input 6: ordinary in 7-bit ASCII')
@@ -500,9 +527,10 @@ class Mux2:
             pointer = self.step(obp)
             memory.put(block + 5, pointer)
             sent, byte = 1, memory.byte(pointer)
-            last, special = pointer == lob, self.special(BYTE_BITS[byte])
+            last, special = self.ends(obp, lob), self.special(BYTE_BITS[byte])
             done = last or (asks_special == 1 and special)
             self.note_fetch(block, pointer, last, special, asks_special)
+            self.note_end('output 01', obp, lob, last)
         elif mode == [1, 0]:
             self.hit('output 10: port control')
             self.change(p, level=ocw[3], control=tuple(ocw[8:16]))

@@ -19,6 +19,15 @@ RECEIVING = (0o40000, 0o60000, 0o50000, 0o70000)        # automatic, then with a
 SENDING = (0o20000, 0o30000)                            # automatic, then with an interrupt at a special code
 EDGES = (65533, 65534, 65535, 0, 1)
 
+# Old pointers and ends of an automatic buffer (02, K2): around an end, far from it, around 32768 and around 0.
+AROUND = [(pointer, 2003) for pointer in (2001, 2002, 2003, 2004, 2005, 2258, 2259, 30000, 36000)]
+FAR = [(10000, 60000), (60000, 10000), (100, 32868), (100, 32869), (32868, 100), (32869, 100)]
+MIDDLE = [(pointer, end) for pointer in (32766, 32767, 32768, 32769) for end in (32767, 32768)]
+WRAPPING = [(65530, 5), (65529, 65530), (65530, 65535), (1, 0), (2, 1), (5, 2), (5, 5), (4, 5)]
+AT_0 = [(pointer, end) for pointer in (65533, 65534, 65535, 0) for end in (0, 1, 2, 5, 65533, 65534, 65535)]
+SHORT = AROUND + FAR + MIDDLE + WRAPPING + AT_0
+LENGTHS = (1, 2, 3, 8)                                  # of buffers that run to their end
+
 # How often each action is chosen, by the kind of session.
 USUAL = dict(turn=60, sweep=14, processor=8, host=4, lend_list=2, poke=2, stopped=2,
              bad_setup=0.4, bad_record=1, bad_memory=1, bad_port=1, bad_sweep=1, reset=0.4)
@@ -128,7 +137,13 @@ class Author:
         return self.below(65536)
 
     def end(self, pointer):
-        return (pointer + self.one_of(0, 1, 1, 2, 2, 3, 40, 65535)) % 65536
+        """A buffer's end: ahead of the pointer, at it, behind it near or far, or at an edge of memory."""
+        if self.chance(0.06):
+            return self.one_of(*EDGES)
+        if self.chance(0.12):
+            return self.below(65536)
+        ahead, behind = (1, 1, 2, 2, 3, 3, 8, 8, 40, 40, 300, 300), (0, -1, -2, -40)
+        return (pointer + self.one_of(*ahead, *behind)) % 65536
 
     def icw(self):
         mode = self.weighted({0: 2, 1: 1, 2: 4, 3: 5})
@@ -513,15 +528,20 @@ def code_sent(author, ocw, code):
     author.do(drive.TRANSMITTED, 0)
 
 
+def one_port(author, base):
+    """A running unit of one port, by calls and a host write alone."""
+    author.do(drive.SETUP, 8, 1, base, 0)
+    author.do(drive.DOC)
+    author.write(author.block(0) + 1, 0o40060)          # port control: characters of eight bits
+    author.inspect()
+
+
 def codes_session():
     """The session of the special codes, by calls and host writes alone: each of the 256 received under each of RECEIVING and
     sent under each of SENDING."""
     author = Author(SEED, 0)
     author.kind = 'codes'
-    author.do(drive.SETUP, 8, 1, 64, 0)
-    author.do(drive.DOC)
-    author.write(author.block(0) + 1, 0o40060)          # port control: characters of eight bits
-    author.inspect()
+    one_port(author, 64)
     for code in range(256):
         for icw in RECEIVING:
             code_received(author, icw, code)
@@ -532,9 +552,135 @@ def codes_session():
     return author, reached
 
 
+def host_byte(author, pointer, byte):
+    """The host puts a byte and keeps the other half of its word."""
+    left, right = divmod(author.mux.memory.word(pointer // 2), 256)
+    author.write(pointer // 2, left * 256 + byte if pointer % 2 else byte * 256 + right)
+
+
+def set_buffer(author, words, control, pointer, end):
+    """The host writes a control word, its pointer and its end; `words` are their places in the block."""
+    for place, word in zip(words, (control, pointer, end)):
+        author.write(author.block(0) + place, word)
+
+
+def receive(author, code):
+    """A character is served, and the transmitter is then empty."""
+    author.do(drive.ARRIVAL, 0, code, 0, 0)
+    send(author)
+
+
+def send(author):
+    """A port is served, and its transmitter is then empty."""
+    author.inspect()
+    if not author.unit.port[0].empty:
+        author.do(drive.TRANSMITTED, 0)
+
+
+def received(author, icw, pointer, end, codes, again=False):
+    """Characters for a buffer of this pointer and end; if `again`, two more after INDONE alone is cleared."""
+    set_buffer(author, (0, 4, 6), icw, pointer, end)
+    for code in codes:
+        receive(author, code)
+    if again:
+        author.write(author.block(0), icw)
+        receive(author, 72)
+        receive(author, 73)
+    author.do(drive.DIAS)
+
+
+def sent(author, ocw, pointer, end, codes, again=False):
+    """Bytes out of a buffer of this pointer and end; if `again`, two more after OUTDONE alone is cleared."""
+    for place, code in enumerate(codes, pointer + 1):
+        host_byte(author, place % 65536, code)
+    set_buffer(author, (1, 5, 7), ocw, pointer, end)
+    for _ in codes:
+        send(author)
+    if again:
+        author.write(author.block(0) + 1, ocw)
+        send(author)
+        send(author)
+    author.do(drive.DIAS)
+
+
+def busy(author):
+    """The transmitter is filled by a single character."""
+    author.write(author.block(0) + 1, 0o60101)
+    author.inspect()
+
+
+def short_buffers(author, pairs):
+    """Buffers of these pointers and ends, in every automatic mode: a character or byte, then a further one."""
+    for pointer, end in pairs:
+        for icw in RECEIVING:
+            received(author, icw, pointer, end, (65, 66))
+            if icw & 0o20000:                           # with an echo
+                busy(author)
+                received(author, icw, pointer, end, (65, 66))
+        for ocw in SENDING:
+            sent(author, ocw, pointer, end, (65, 66))
+            sent(author, ocw, pointer, end, (13, 66))   # a special byte first
+
+
+def running_buffers(author):
+    """Buffers that run to their end, in every automatic mode, and what follows it with the pointers as left."""
+    buffers = [(first, first + length) for first in (3000, 3001, 32767) for length in LENGTHS]
+    for pointer, end in buffers + [(65530, 65535), (65534, 65535)]:
+        codes = range(65, 66 + end - pointer)
+        for icw in RECEIVING:
+            received(author, icw, pointer, end, codes, again=True)
+        for ocw in SENDING:
+            sent(author, ocw, pointer, end, codes, again=True)
+
+
+def buffers_on_own_words(author):
+    """Input buffers on the port's own LIB and IBP: what is compared was read before the byte is stored."""
+    for word in (6, 4):
+        for place in (2 * (author.block(0) + word), 2 * (author.block(0) + word) + 1):
+            for end in (0, place - 1, place, place + 1, place + 2, place ^ 255, 60000, 65535):
+                for icw in RECEIVING[:2]:
+                    received(author, icw, place - 1, end, (0, 66))
+                    received(author, icw, place - 1, end, (255, 66))
+
+
+def input_on_lob(author):
+    """Between two bytes of an output buffer a character lands on LOB: the end moves ahead, to OBP, behind it."""
+    last = 2 * (author.block(0) + 7)
+    for place, codes in ((last, (0, 6, 7, 8, 255)), (last + 1, (0, 208, 209, 210, 211, 212, 255))):
+        for code in codes:
+            for ocw in SENDING:
+                set_buffer(author, (1, 5, 7), ocw, 2000, 2010)
+                for byte in range(4):
+                    host_byte(author, 2001 + byte, 65 + byte)
+                send(author)
+                set_buffer(author, (0, 4, 6), 0o40000, place - 1, 65535)
+                receive(author, code)
+                for _ in range(3):
+                    send(author)
+                author.do(drive.DIAS)
+
+
+def short_session():
+    """The session of buffers set up too short (02, K2), by calls and host writes alone."""
+    author = Author(SEED, 0)
+    author.kind = 'short'
+    one_port(author, 15360)
+    short_buffers(author, SHORT)
+    running_buffers(author)
+    buffers_on_own_words(author)
+    input_on_lob(author)
+    one_port(author, 0)                                 # the byte after 65535 is ICW's left half
+    short_buffers(author, [(pointer, end) for pointer in (65534, 65535, 0) for end in (0, 9, 65535)])
+    buffers_on_own_words(author)
+    reached = author.mux.reached
+    author.do(drive.END)
+    return author, reached
+
+
 def fixed_set(seed=SEED, sessions=SESSIONS):
     yield speeds_session()
-    yield bases_session()
+    yield short_session()
     yield codes_session()
+    yield bases_session()
     for number in range(sessions):
         yield write_session(seed, number)

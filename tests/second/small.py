@@ -12,15 +12,19 @@ import sys
 import drive
 import sessions
 
-NUMBERS, ORDERS = (0, 5, 8, 9), 260
+NUMBERS, ORDERS = (0, 5, 8, 10), 260
+
+
+def parts():
+    """The orders of each part."""
+    begun = [sessions.write_session(sessions.SEED, number)[0].orders[:ORDERS] for number in NUMBERS]
+    return [orders + [(drive.DIGEST,), (drive.END,)] for orders in begun] + [sessions.speeds_session()[0].orders]
 
 
 def main():
     folder = pathlib.Path(sys.argv[1])
     text, lines = [], []
-    parts = [sessions.write_session(sessions.SEED, number)[0].orders[:ORDERS] + [(drive.DIGEST,), (drive.END,)]
-             for number in NUMBERS]
-    for orders in parts + [sessions.speeds_session()[0].orders]:
+    for orders in parts():
         driver = drive.Driver()
         for order in orders:
             text.append(' '.join(map(str, order)))

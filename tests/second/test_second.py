@@ -1,4 +1,4 @@
-"""Checks the second program by document 01's settled examples, K1 and K4 of document 02 and the manual's own values.
+"""Checks the second program by document 01's settled examples, K1, K2 and K4 of document 02 and the manual.
 
 It also checks that the digests are those of FORMAT.md, that a written session
 can be read and driven again, that compare.py finds a changed line and that
@@ -12,9 +12,11 @@ from random import Random
 
 import compare
 import drive
+import mutants
 import mux2
 import sessions
 import settings2
+import small
 from mux2 import IDLE, INPUT, NOTHING, OUTPUT, Answer, Mux2
 
 
@@ -97,7 +99,18 @@ def test_three_bytes_into_a_buffer():
     assert block(mux)[::2] == [0o140000 + 67, 2003]
 
 
-def test_pointer_past_the_end():
+def test_three_bytes_out_of_a_buffer():
+    mux = unit(ports=1)
+    mux.host_write(1000, 64 * 256 + 65)
+    mux.host_write(1001, 66 * 256 + 67)
+    block(mux, ocw=0o20000, obp=2000, lob=2003)
+    for byte in (65, 66, 67):
+        assert mux.inspect()[1] == Answer(OUTPUT, 0, 1, byte, int(byte == 67))
+        mux.transmitted(0)
+    assert block(mux)[1::2] == [0o120000, 2003]
+
+
+def test_pointer_after_65535():
     mux = unit(ports=1)
     mux.host_write(0, 0x1234)
     block(mux, icw=0o40000, ibp=65535, lib=9)
@@ -145,6 +158,7 @@ def test_sweep_lists_bytes_and_stops():
     for p, ocw in enumerate((0o20000, 0, 0o60102, 0o60103)):
         mux.host_write(mux.block_of(p) + 1, ocw)
     mux.host_write(0, 0o101)                            # port 0's OBP is 0: the right half is next
+    mux.host_write(mux.block_of(0) + 7, 9)              # LOB: more bytes are to come
     assert mux.sweep(10) == (0, 3, 2)
     assert mux.places == [0o101, 2 * 256 + 0o102] + [9] * 8
     assert mux.record.pos == 3
@@ -247,6 +261,224 @@ def test_only_3_becomes_11():
         assert [mux.dia() for mux in poked] == [(6, 0) if new else (0, 0)] * 2
     assert set(counts) == {(0, 0), (1, 1), (2, 2), (3, 3), (3, 11), (4, 4)}
     assert min(counts.values()) > 100 and sum(counts.values()) > 5000
+
+
+# Document 02, K2, for input and output each.
+
+KINDS = (INPUT, OUTPUT)
+EDGES = (0, 1, 2, 5, 127, 128, 255, 256, 2002, 2003, 2004, 32766, 32767, 32768, 32769,
+         65279, 65280, 65530, 65533, 65534, 65535)
+
+
+def set_buffer(mux, kind, pointer, end, bits=0):
+    """Port 0's automatic buffer, with done clear; `bits` are the echo, 7-bit ASCII or special request."""
+    if kind == INPUT:
+        block(mux, icw=0o40000 + bits, ibp=pointer, lib=end)
+    else:
+        block(mux, ocw=0o20000 + bits, obp=pointer, lob=end)
+
+
+def one_turn(mux, kind, character=0o101):
+    """Port 0 takes a character, or the transmitter is empty and asks for a byte: the answer."""
+    answer = give(mux, 0, character) if kind == INPUT else mux.inspect()[1]
+    mux.transmitted(0)
+    return answer
+
+
+def serve(mux, kind, character=0o101):
+    """One turn of port 0's buffer: whether it is done, by answer, control word and flag alike."""
+    mux.start()
+    answer = one_turn(mux, kind, character)
+    word = block(mux)[0 if kind == INPUT else 1]
+    assert answer.turn == kind and answer.raised == mux.record.irq == (word >= 0o100000)
+    return answer.raised == 1
+
+
+def pointer_of(mux, kind):
+    return block(mux)[2 if kind == INPUT else 3]
+
+
+def test_pointer_at_the_end():
+    mux = unit(ports=1)
+    mux.host_write(1002, 0x1234)
+    set_buffer(mux, INPUT, 2003, 2003)
+    assert give(mux, 0, 0xab) == Answer(INPUT, 0, 0, 0, 1) and mux.dias() == (0, 0o20400)
+    assert mux.memory.word(1002) == 0xab34 and block(mux)[::2] == [0o140000 + 0xab, 2004]
+    set_buffer(mux, OUTPUT, 2003, 2003)
+    assert mux.inspect()[1] == Answer(OUTPUT, 0, 1, 0xab, 1) and mux.dias() == (0, 0o10400)
+    assert block(mux)[1::2] == [0o120000, 2004]
+
+
+def test_65535_is_always_done():
+    for kind in KINDS:
+        mux = unit(ports=1)
+        for end in range(65536):
+            mux.host_write(0, 0x1234)
+            set_buffer(mux, kind, 65535, end)
+            answer = one_turn(mux, kind, 0xab)
+            assert answer == (Answer(INPUT, 0, 0, 0, 1) if kind == INPUT else Answer(OUTPUT, 0, 1, 0x12, 1))
+            assert mux.memory.word(0) == (0xab34 if kind == INPUT else 0x1234) and pointer_of(mux, kind) == 0
+
+
+def test_end_of_0():
+    for kind in KINDS:
+        mux = unit(ports=1)
+        for pointer in (*EDGES, *range(0, 65536, 5)):
+            set_buffer(mux, kind, pointer, 0)
+            assert serve(mux, kind)
+
+
+def test_wrapping_buffer():
+    for kind in KINDS:
+        mux = unit(ports=1)
+        set_buffer(mux, kind, 65530, 5)
+        assert serve(mux, kind) and pointer_of(mux, kind) == 65531
+        assert one_turn(mux, kind) == Answer(kind, 0, 0, 0, 0)          # no further byte until the host asks
+        assert pointer_of(mux, kind) == 65531
+
+
+def test_pointer_left_at_the_end():
+    for kind in KINDS:
+        mux = unit(ports=1)
+        set_buffer(mux, kind, 2000, 2002)
+        assert [serve(mux, kind), serve(mux, kind)] == [False, True]
+        for pointer in range(2003, 2010):               # the host clears the control word alone
+            block(mux, **({'icw': 0o40000} if kind == INPUT else {'ocw': 0o20000}))
+            assert serve(mux, kind) and pointer_of(mux, kind) == pointer
+
+
+def test_pointer_and_end_as_read_first():
+    place = 2 * (16384 + 6)                             # LIB's own left half
+    for lib, byte, done in ((60000, 0, False), (0, 255, True), (place, 255, True), (place + 1, 0, False)):
+        mux = unit(ports=1, base=16384)
+        set_buffer(mux, INPUT, place - 1, lib)
+        assert serve(mux, INPUT, byte) == done and mux.memory.word(place // 2) == byte * 256 + lib % 256
+        assert done or serve(mux, INPUT, 65)            # LIB is now far behind the pointer
+    place = 2 * (16384 + 4)                             # IBP's own left half
+    for lib, byte, done in ((60000, 255, False), (2003, 0, True), (place, 0, True), (place + 1, 255, False)):
+        mux = unit(ports=1, base=16384)
+        set_buffer(mux, INPUT, place - 1, lib)
+        assert serve(mux, INPUT, byte) == done and pointer_of(mux, INPUT) == byte * 256 + place % 256
+        assert done or serve(mux, INPUT, 65)            # IBP is now far past the end
+
+
+def test_echo_at_the_end():
+    for pointer in (2002, 2003, 2004, 65535):
+        for empty in (1, 0):
+            mux = unit(ports=1)
+            mux.change(0, empty=empty)
+            set_buffer(mux, INPUT, pointer, 2003, bits=0o20000)
+            assert give(mux, 0, 65) == (Answer(INPUT, 0, 1, 65, 1) if empty else Answer(INPUT, 0, 0, 0, 1))
+            assert block(mux)[0] == 0o160000 + (0 if empty else 0o1000) + 65        # bit 6: not echoed
+
+
+def buffers():
+    """Pointers and ends: the end behind the pointer, at it or ahead, near and far; then the edges together."""
+    random = Random(1982).random
+    for _ in range(300):
+        pointer = int(random() * 65536)
+        yield pointer, int(random() * (pointer + 1))
+        yield pointer, max(pointer - int(random() * 40), 0)
+        yield pointer, min(pointer + int(random() * 40), 65535)
+    for _ in range(10):
+        pointer = int(random() * 65536)
+        yield pointer, min(pointer + int(random() * 4000), 65535)
+    for pointer in EDGES:
+        for end in EDGES:
+            if end < pointer + 400:
+                yield pointer, end
+
+
+def base_beside(first, last):
+    """A base whose first block these bytes do not touch."""
+    return next(base for base in (64, 16384, 0) if last < 2 * base or first >= 2 * (base + 8))
+
+
+def test_a_buffer_ends():
+    longest = 0
+    for number, (pointer, end) in enumerate(buffers()):
+        count = max(1, end - pointer)
+        longest = max(longest, count)
+        places = [(pointer + k) % 65536 for k in range(1, count + 1)]
+        codes = [32 + (pointer + k) % 92 for k in range(count)]         # none is special
+        for kind, bits in ((INPUT, number % 4 * 0o10000), (OUTPUT, number % 2 * 0o10000)):
+            mux = unit(ports=1, base=base_beside(min(places), max(places)))
+            if kind == OUTPUT:
+                for place, code in zip(places, codes):
+                    mux.memory.put_byte(place, code)
+            set_buffer(mux, kind, pointer, end, bits)
+            for served, code in enumerate(codes, 1):
+                assert serve(mux, kind, code) == (served == count)
+            top = 128 if kind == INPUT and bits & 0o10000 else 0
+            assert [mux.memory.byte(place) for place in places] == [top + code for code in codes]
+            assert pointer_of(mux, kind) == places[-1]
+    assert number > 1000 and longest > 2000
+
+
+def test_only_short_buffers_change():
+    random = Random(2003).random
+    pairs = [(pointer, end) for pointer in EDGES for end in EDGES]
+    pairs += [(int(random() * 65536), int(random() * 65536)) for _ in range(3000)]
+    pairs += [(end + k, end) for end in range(100, 65000, 997) for k in range(-3, 4)]
+    for kind in KINDS:
+        mux = unit(ports=1)
+        for pointer, end in pairs:
+            set_buffer(mux, kind, pointer, end)
+            before = (pointer + 1) % 65536 == end       # document 01: the new pointer equals the end
+            changes = pointer >= end and (pointer, end) != (65535, 0)
+            assert (serve(mux, kind) != before) == changes
+
+
+def test_appendix_b_with_data_coming_in():
+    mux = unit(ports=8, control=0)
+    for address in range(32768):
+        mux.host_write(address, 0o40000)                # PCON output or auto input
+    for p in range(8):
+        assert give(mux, p, 0o21 + p) == Answer(INPUT, p, 0, 0, 1)
+    words = enumerate(map(mux.memory.word, range(32768)))
+    changed = {address: word for address, word in words if word != 0o40000}
+    wanted = {64 + 8 * p: 0o140021 + p for p in range(8)}
+    wanted.update({64 + 8 * p + 4: 0o40001 for p in range(8)})
+    assert changed == {**wanted, 0o20000: 0o40030}      # the byte at 40001: a right half
+
+
+def failing(check, program):
+    """Whether a check fails with another program in the second one's place."""
+    global Mux2
+    right, Mux2 = Mux2, program
+    try:
+        check()
+    except AssertionError:
+        return True
+    finally:
+        Mux2 = right
+    return False
+
+
+def with_the_old_rule():
+    """The second program with document 01's old rule: for input alone, for output alone, for both."""
+    found = {name: (old, new) for name, old, new in mutants.MUTANTS}
+    return [mutants.program(*found[f'{kind}buffer ends: the old rule']) for kind in ('input ', 'output ', '')]
+
+
+def test_the_old_rule_fails():
+    for_input, for_output, for_both = with_the_old_rule()
+    for check in (test_pointer_at_the_end, test_65535_is_always_done, test_end_of_0, test_wrapping_buffer,
+                  test_pointer_left_at_the_end, test_a_buffer_ends, test_only_short_buffers_change):
+        assert failing(check, for_input) and failing(check, for_output) and failing(check, for_both)
+    for check in (test_pointer_and_end_as_read_first, test_echo_at_the_end,
+                  test_appendix_b_with_data_coming_in):
+        assert failing(check, for_input) and failing(check, for_both) and not failing(check, for_output)
+    for check in (test_three_bytes_into_a_buffer, test_three_bytes_out_of_a_buffer, test_pointer_after_65535):
+        assert not failing(check, for_both)
+
+
+def test_random_sessions_tell_the_old_rule():
+    wrong = with_the_old_rule()
+    for number in range(len(sessions.KINDS)):
+        author, reached = sessions.write_session(sessions.SEED, number)
+        assert all(mutants.first_difference(program, author) is not None for program in wrong)
+        assert reached['input 6: not last'] and reached['output 01: not last, pointer below the end']
 
 
 # The caretakers' program.
@@ -547,14 +779,21 @@ def test_orders_keep_the_format():
             13: (32760,), 14: (number, 32760), 20: (39999, word), 21: (2147483646,), 22: (40000,),
             23: (4200, word), 24: (7, number), 25: (127, 8, 255), 26: (255,)}
     written = [sessions.write_session(7, number)[0] for number in range(len(sessions.KINDS))]
-    for author in written + [sessions.speeds_session()[0], sessions.bases_session()[0],
-                             sessions.codes_session()[0]]:
+    by_calls = [sessions.codes_session()[0], sessions.short_session()[0]]
+    pokes = (drive.POKE, drive.POKE_PORT)
+    assert not any(order[0] in pokes for author in by_calls for order in author.orders)
+    for author in written + by_calls + [sessions.speeds_session()[0], sessions.bases_session()[0]]:
         for op, *rest in author.orders:
             limits = most.get(op, ())
             assert op in drive.NAMES and len(rest) == len(limits)
             assert all(type(x) is int and 0 <= x <= limit for x, limit in zip(rest, limits))
             assert op != drive.POKE or rest[1] <= field[rest[0]]
             assert op != drive.POKE_PORT or rest[2] <= port_field[rest[1]]
+
+
+def test_small_session_has_every_order():
+    orders = [order for part in small.parts() for order in part]
+    assert {order[0] for order in orders} == set(drive.NAMES) and 1000 < len(orders) < 2000
 
 
 def test_a_text_can_be_driven_again():
