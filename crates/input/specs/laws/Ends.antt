@@ -121,8 +121,9 @@ serves a v =
           s .0,
         )
 
--- so a buffer of two bytes is open whose last is the left half of its own ICW, the word 64, and one whose last is the last byte of the memory
-pub open-edges : Open 64 (record { control = 0o40000; pointer = 126; end = 128 }) × Open 64 (record { control = 0o60000; pointer = 65533; end = 65535 })
+-- so a buffer of two bytes is open whose last is the left half of its own ICW, the word 64; and one that begins after its own LIB, the word 70,
+-- and goes to the end of the memory
+pub open-edges : Open 64 (record { control = 0o40000; pointer = 126; end = 128 }) × Open 64 (record { control = 0o60000; pointer = 141; end = 65535 })
 unfolding get
 open-edges =
     (record {

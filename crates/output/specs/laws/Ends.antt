@@ -30,6 +30,7 @@ use Rattle.words.specs.Byte.{halfAt, byteAt, wordIf}
 use Rattle.words.specs.laws.Byte.{length-wordIf, other-word, read-word}
 use Rattle.words.specs.Special.{isSpecial}
 use Rattle.unit.specs.declared.mux.Port.{Port}
+use Rattle.unit.specs.Record.{freshPort}
 use Rattle.unit.specs.Reply.{Serviced, serviced}
 use Rattle.unit.specs.laws.Sound.{Placed}
 use Rattle.output.specs.declared.plan.Plan.{Plan}
@@ -200,7 +201,7 @@ abbrev pub short : Visit 64
 short =
     record {
       memory = set (set (set (replicate 32768 0) 65 0o20000) 69 2003) 71 2003;
-      port = record { held = false; ch = record { byte = 0; parity = false; brk = false; overload = false }; empty = true; control = 0; devcontrol = true; devstatus = false };
+      port = freshPort;
       placed = record { words = refl; inside = lit≤ tt };
     }
 
