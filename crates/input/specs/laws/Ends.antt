@@ -31,8 +31,8 @@ use Rattle.unit.specs.Reply.{Serviced, serviced}
 use Rattle.unit.specs.laws.Sound.{Placed}
 use Rattle.input.specs.declared.plan.Plan.{Plan}
 use Rattle.input.specs.Input.{errorCode, ascii, donePlan, storedPlan, inputPlan, carried, inputService}
-use Rattle.input.specs.laws.Kept.{icwOf, lastOf, codeOf, planOf, nextOf, after, kept-word}
-use Rattle.input.specs.laws.Automatic.{Filling, apart, busyOf, doneOf, reportedPlan, bufferedPlan, automatic, Stored, stored, raised-done}
+use Rattle.input.specs.laws.Kept.{icwOf, lastOf, codeOf, nextOf, after, kept-word}
+use Rattle.input.specs.laws.Automatic.{Filling, apart, busyOf, doneOf, reportedPlan, bufferedPlan, automatic, stored, raised-done}
 use Rattle.input.specs.laws.Glottal.{replaced}
 
 -- ICW, IBP and LIB of the port whose block starts at the word a

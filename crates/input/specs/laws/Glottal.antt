@@ -10,8 +10,8 @@
 -- Not here: a character in automatic mode, 7-bit ASCII or not, in Automatic; every other word and byte of the memory, in Kept; which codes are special, in words' Special; the glottal stop of an inspection, a
 -- sweep and a call, in laws/Glottal of scan, sweep and door.
 -- Assumes nothing.
-use mathlib.Core.Path.{_≡_, _∙_, ap, refl, sym}
-use mathlib.Core.Bool.{Bool, true, false, not, _&&_, _||_, or-true, and-false}
+use mathlib.Core.Path.{_≡_, _∙_, ap, sym}
+use mathlib.Core.Bool.{true, false, not, or-true, and-false}
 use mathlib.Core.List.{List}
 use mathlib.Core.Logic.{_≢_}
 use Prim.Native.Nat.{ℕ, _+_, _/_, _%_, _<_}

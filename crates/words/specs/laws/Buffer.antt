@@ -5,7 +5,7 @@
 --   Serves, ends    if every service ends an open buffer or goes on, as many services as its room end it
 -- Not here: that the services are such, in laws/Ends of input and of output; when the end is reached, in Pointer.
 -- Assumes nothing.
-use mathlib.Core.Path.{_≡_, ap, sym, subst}
+use mathlib.Core.Path.{_≡_, sym, subst}
 use mathlib.Core.List.{List, [], _∷_}
 use mathlib.Core.Logic.{_⊎_, inl, inr}
 use Prim.Native.Nat.{ℕ, _+_, _-_, _<_, _≤_, max}
