@@ -97,8 +97,8 @@ REFUSALS = {**SETUP_CALLS, **{call: (6,) for call in PLAIN_CALLS},
 # and was refused with 4.
 UNREACHABLE = {'setup refused 5', 'unsound: setup gives 5'}
 
-# How an old pointer may stand to the end of its automatic buffer (02, K2), for input and output each.
-ENDS = ('not last, pointer below the end', 'end reached exactly', 'last place of memory: 65534, end 65535',
+# How an old pointer may stand to the end that its automatic buffer reaches (02, K2), for input and output each.
+ENDS = ('end reached exactly', 'last place of memory: 65534, end 65535',
         'pointer already at the end', 'pointer already past the end',
         'done from 65535 to 0, end 65535', 'done from 65535 to 0, end 0', 'done from 65535 to 0, end between',
         'done, end 0')
@@ -131,7 +131,7 @@ BRANCHES = (
        'input 6: buffer on ICW, done', 'input 6: buffer on ICW, not done',
        'input 6: buffer on IBP', 'input 6: buffer on LIB', 'input: done', 'input: ICW not written',
        'output: OUTDONE already set', 'output: OUTDONE set, bit 7 becomes 1',
-       'output 00: nothing', 'output 01: automatic', 'output 01: last byte',
+       'output 00: nothing', 'output 01: automatic', 'output 01: last byte', 'output 01: not last',
        'output 01: special, asked for', 'output 01: special, not asked for',
        'output 01: neither', 'output 01: last byte and special', 'output 01: byte fetched from OBP',
        'output 10: port control', 'output 11: single',
@@ -379,20 +379,18 @@ class Mux2:
         """Whether old pointer + 1, taken without the step from 65535 to 0, is at least the end (02, K2)."""
         return pointer + 1 >= end
 
-    def note_end(self, rule, pointer, end, last):
-        """Counts how the old pointer stood to the end; changes nothing."""
-        if not last:
-            where = 'not last, pointer below the end'
-        elif pointer == 65535:
+    def note_end(self, rule, pointer, end):
+        """Counts how the old pointer stood to the end that is reached; changes nothing."""
+        if pointer == 65535:
             where = 'done from 65535 to 0, end ' + {0: '0', 65535: '65535'}.get(end, 'between')
         elif pointer < end:
             where = 'end reached exactly'
         else:
             where = 'pointer already at the end' if pointer == end else 'pointer already past the end'
         self.hit(f'{rule}: {where}')
-        if last and (pointer, end) == (65534, 65535):
+        if (pointer, end) == (65534, 65535):
             self.hit(f'{rule}: last place of memory: 65534, end 65535')
-        if last and end == 0:
+        if end == 0:
             self.hit(f'{rule}: done, end 0')
 
     def special(self, character):
@@ -456,7 +454,8 @@ class Mux2:
                 else:
                     echo_mark, done = 1, True
             self.note_store(block, pointer, last, mode, port, done, ascii7, character)
-            self.note_end('input 6', ibp, lib, last)
+            if last:
+                self.note_end('input 6', ibp, lib)
         if done:
             self.hit('input: done')
             if stored != character:
@@ -530,7 +529,8 @@ class Mux2:
             last, special = self.ends(obp, lob), self.special(BYTE_BITS[byte])
             done = last or (asks_special == 1 and special)
             self.note_fetch(block, pointer, last, special, asks_special)
-            self.note_end('output 01', obp, lob, last)
+            if last:
+                self.note_end('output 01', obp, lob)
         elif mode == [1, 0]:
             self.hit('output 10: port control')
             self.change(p, level=ocw[3], control=tuple(ocw[8:16]))
@@ -557,8 +557,7 @@ class Mux2:
 
     def note_fetch(self, block, pointer, last, special, asks_special):
         """Counts what automatic output met; changes nothing."""
-        if last:
-            self.hit('output 01: last byte')
+        self.hit('output 01: last byte' if last else 'output 01: not last')
         if special:
             self.hit('output 01: special, asked for' if asks_special
                      else 'output 01: special, not asked for')

@@ -23,9 +23,9 @@ EDGES = (65533, 65534, 65535, 0, 1)
 AROUND = [(pointer, 2003) for pointer in (2001, 2002, 2003, 2004, 2005, 2258, 2259, 30000, 36000)]
 FAR = [(10000, 60000), (60000, 10000), (100, 32868), (100, 32869), (32868, 100), (32869, 100)]
 MIDDLE = [(pointer, end) for pointer in (32766, 32767, 32768, 32769) for end in (32767, 32768)]
-WRAPPING = [(65530, 5), (65529, 65530), (65530, 65535), (1, 0), (2, 1), (5, 2), (5, 5), (4, 5)]
+NEAR_0 = [(65530, 5), (65529, 65530), (65530, 65535), (1, 0), (2, 1), (5, 2), (5, 5), (4, 5)]
 AT_0 = [(pointer, end) for pointer in (65533, 65534, 65535, 0) for end in (0, 1, 2, 5, 65533, 65534, 65535)]
-SHORT = AROUND + FAR + MIDDLE + WRAPPING + AT_0
+SHORT = AROUND + FAR + MIDDLE + NEAR_0 + AT_0
 LENGTHS = (1, 2, 3, 8)                                  # of buffers that run to their end
 
 # How often each action is chosen, by the kind of session.

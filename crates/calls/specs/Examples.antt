@@ -2,7 +2,7 @@
 --   Starred   the examples of document 01, in its order
 --   Manual    001: section 6 and appendix B, as docs/DECISIONS.md makes them
 --   Bases     document 02, K1: where the two numbers of a wrong base begin and end
---   Buffers   document 02, K2: buffers that are set up too short, and one whose end its own port's input moves
+--   Buffers   document 02, K2: buffers that are set up too short, and two that lie on their own words
 -- Each is computed: a unit is set up and started, calls are made, and what they leave is compared.
 -- Not here: that they hold, in laws/Examples; the examples that are run and not proved, in the programs.
 -- Assumes nothing.
@@ -186,6 +186,10 @@ onLOB = set (set (set (emptying 2000 2002) 64 0o40000) 68 141) 70 300
 abbrev pub besideLOB : List ℕ
 besideLOB = set (set (set (emptying 2000 2002) 64 0o40000) 68 199) 70 300
 
+-- a block at word 128 whose next place, 265, is the right half of its own IBP; a character of code 8 is typed and served
+abbrev pub onIBP : List ℕ
+onIBP = unitAfter 8 1 128 (set (set (set clear 128 0o40000) 132 264) 134 300) (typed 0 8 ∷ look ∷ []) .memory
+
 pub record Buffers : Type 0 where
   -- IBP 2003 with LIB 2003: stored at 2004, the left half of word 1002, and done
   pub at-byte : getD (typedInto 2003 2003) 1002 0 ≡ 0x0100
@@ -220,3 +224,6 @@ pub record Buffers : Type 0 where
   pub across-pointer : getD (crossed onLOB) 69 0 ≡ 2002
   pub across-not-done : getD (crossed onLOB) 65 0 ≡ 0o20000
   pub across-end : getD (crossed onLOB) 71 0 ≡ 0x1FD2
+  -- an input buffer on its own IBP: the character puts IBP back to 264 and is not done, so that such a buffer may have no end
+  pub back-pointer : getD onIBP 132 0 ≡ 264
+  pub back-not-done : getD onIBP 128 0 ≡ 0o40000

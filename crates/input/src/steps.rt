@@ -64,7 +64,7 @@ fn done_plan(icw: u16, code: u16, mark: u16, c: u8) -> Plan
     }
 }
 
-// Step 6: a full buffer and an echo that finds the transmitter busy are done, for the host has to act on both.
+// Step 6: the end of the buffer and an echo that finds the transmitter busy are done, for the host has to act on both.
 fn stored_plan(icw: u16, c: u8, last: bool, echo: bool, empty: bool) -> Plan
     ensures { λ r. ⌜ r ≡ storedPlan icw c last echo empty ⌝ }
 {

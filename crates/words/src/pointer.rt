@@ -9,7 +9,7 @@ pub fn step_ptr(p: u16) -> u16
     std::num::wrapping_add_u16(p, 1)
 }
 
-// Whether the buffer ends with the next byte. In 32 bits, where 65535 + 1 is past every end: so no buffer goes on without end.
+// Whether the buffer ends with the next byte. In 32 bits, where 65535 + 1 is past every end.
 pub fn at_end(old: u16, end: u16) -> bool
     ensures { λ r. ⌜ r ≡ atEnd old end ⌝ }
 {

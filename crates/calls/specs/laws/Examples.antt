@@ -127,4 +127,6 @@ buffers =
       across-pointer = refl;
       across-not-done = refl;
       across-end = refl;
+      back-pointer = refl;
+      back-not-done = refl;
     }

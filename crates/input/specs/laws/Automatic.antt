@@ -1,7 +1,8 @@
 -- A character in automatic mode (document 01, Input 4, 5 and 6): the host is told of it by ICW, or it is stored in the buffer.
 --   Filling           automatic mode, with echo or without, INDONE clear as read
---   apart, automatic  steps 1 to 3 are passed: an error or a special code of 7-bit ASCII mode is done, any other character is stored
---   written, that-word   where ICW is written, it is what the plan says
+--   apart, busyOf, doneOf, reportedPlan, bufferedPlan   what the plan there turns on, and its two ways
+--   automatic         steps 1 to 3 are passed: an error or a special code of 7-bit ASCII mode is done, any other character is stored
+--   written           where ICW is written, it is what the plan says
 --   Stored, stored    a character that is stored: its byte, IBP, the interrupt and ICW
 --   raised-done       a character that raises an interrupt leaves INDONE set
 -- Not here: the glottal stop and what 7-bit ASCII mode makes of a byte, in Glottal; every other word of the memory, in Kept.
@@ -13,8 +14,7 @@ use mathlib.Core.Logic.{_≢_, _⊎_, inl, inr}
 use Prim.Native.Nat.{ℕ, _+_, _/_, _<_}
 use native.Mathlib.Omega.{arith}
 use lib.Dec.{eqb, lit<}
-use lib.ListN.{getD, set}
-use lib.Seq.{getD-set-same}
+use lib.ListN.{getD}
 use Rattle.ground.specs.Choose.{pick, bit}
 use Rattle.ground.specs.laws.Rows.{pick-true, pick-false, bit-below}
 use Rattle.words.specs.Field.{get}
@@ -77,18 +77,14 @@ automatic m a q h = by (h .mode) ∙ both-ways (not (eqb (codeOf q) flagNone)) (
 -- ---- ICW
 
 -- where the plan writes ICW, ICW is what it says: no store comes after
-pub written : (m : List ℕ) (a : ℕ) (q : Port) → Placed m a → planOf m a q .write ≡ true → icwOf (after m a q) a ≡ planOf m a q .icw
+pub written : (m : List ℕ) (a : ℕ) (q : Port) (p : Plan) → Placed m a → planOf m a q ≡ p → p .write ≡ true → icwOf (after m a q) a ≡ p .icw
 unfolding inputService carried
-written m a q h w =
-    let p = planOf m a q in
+written m a q p h e w =
     let next = nextOf m a in
     let before = byteIf (p .store) (wordIf (p .store) m (a + atIBP) next) next (p .byte) in
-    ap (λ (t : Bool). getD (wordIf t before (a + atICW) (p .icw)) (a + atICW) 0) w
+    ap (λ (r : Plan). icwOf (carried r a next m) a) e
+    ∙ ap (λ (t : Bool). getD (wordIf t before (a + atICW) (p .icw)) (a + atICW) 0) w
     ∙ read-word before (a + atICW) (p .icw) (simp (length-byteIf, length-wordIf) (omega (arith, h .words, h .inside)))
-
--- a service that writes ICW and no other word
-pub that-word : (m : List ℕ) (a : ℕ) (q : Port) (w : ℕ) → Placed m a → after m a q ≡ set m (a + atICW) w → icwOf (after m a q) a ≡ w
-that-word m a q w h e = rw e (getD-set-same m (a + atICW) w 0 (omega (arith, h .words, h .inside)))
 
 -- ---- a character that is stored
 
@@ -128,7 +124,7 @@ stored m a q placed h byte s not-icw =
           ∙ ap (λ (t : Bool). getD (wordIf t there (a + atICW) (p .icw)) (a + atICW) 0) quiet
           ∙ other-word-of-byte true pointed next (p .byte) (a + atICW) (λ e. not-icw (sym e))
           ∙ other-word true m (a + atIBP) next (a + atICW) (λ e. omega (arith, e));
-      done-icw = λ full. written m a q placed (ap (λ (r : Plan). r .write) planned ∙ full) ∙ ap (λ (r : Plan). r .icw) planned;
+      done-icw = written m a q p placed planned;
     }
 
 -- ---- a character that is done
@@ -142,7 +138,7 @@ raised-done m a q placed h byte r = by (apart m a q) refl
 
     -- the plan writes a word whose INDONE is set
     set : (p : Plan) → planOf m a q ≡ p → p .write ≡ true → get INDONE (p .icw) ≡ 1 → get INDONE (icwOf (after m a q) a) ≡ 1
-    set p e w d = ap (get INDONE) (written m a q placed (ap (λ (r : Plan). r .write) e ∙ w) ∙ ap (λ (r : Plan). r .icw) e) ∙ d
+    set p e w d = ap (get INDONE) (written m a q p placed e w) ∙ d
 
     fits : wordByte (ascii icw) (q .ch .byte) < 256
     fits = word-fits (ascii icw) (q .ch .byte) byte

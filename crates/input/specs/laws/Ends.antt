@@ -1,11 +1,14 @@
 -- A buffer of automatic input ends (document 02, K2).
---   bufferOf, Visit   ICW, IBP and LIB of a port; one of its input services, with the memory and the port that it finds
---   Beside, Open, open-edges   a byte on none of these words; automatic mode with INDONE clear, and a buffer of such bytes; its last may lie there
---   quiet, steps      a character that is not done is stored: ICW as read, IBP one on with no jump to 0, LIB − IBP one less
---   input-ends        so after max(1, LIB − IBP) services INDONE is set, whatever becomes of every other word meanwhile
---   first-ends, from-top   a character is done where LIB is at most IBP + 1: so after 65535, and if it is stored, its byte is the left half of word 0
---   inputWas, same-service   the service by the rule as it was: the same where IBP + 1 is below LIB or equal to it
---   short ..          IBP 2003 with LIB 2003: one service ends it, and by the rule as it was it ran on
+--   bufferOf                   ICW, IBP and LIB of a port
+--   Beside                     a byte on none of these three words
+--   quiet, next-below, steps   a character that raises no interrupt is stored and not done; if its byte is beside, ICW is as read, IBP one on with no
+--                              jump to 0, and LIB − IBP one less
+--   Visit, found, leaves       an input service, with the memory and the port that it finds; the three words that it finds and leaves
+--   Open, open-edges, Done     automatic mode with INDONE clear, and a buffer of bytes that are beside, but for its last; INDONE set
+--   serves, input-ends         so after max(1, LIB − IBP) services INDONE is set, whatever becomes of every other word meanwhile
+--   first-ends, from-top       a character is done where LIB is at most IBP + 1: so after 65535; where its byte then is
+--   inputBy, by-the-rule, same-service   by the rule as it was: the same where IBP + 1 is below LIB or equal to it
+--   short ..                   IBP 2003 with LIB 2003: one service ends it, and by the rule as it was it ran on
 -- Not here: services one after the other, and the count, in words, laws/Buffer; when the end is reached, in words, laws/Pointer.
 -- Assumes nothing.
 use mathlib.Core.Path.{_≡_, _∙_, ap, refl, sym}
@@ -22,6 +25,7 @@ use Rattle.ground.specs.laws.Rows.{pick-true, pick-false, or-false}
 use Rattle.words.specs.Field.{get, put}
 use Rattle.words.specs.Codes.{atICW, atIBP, atLIB, INDONE, LEFT, storedByte, echoedByte}
 use Rattle.words.specs.laws.Codes.{stored-fits}
+use Rattle.words.specs.Pointer.{atEnd}
 use Rattle.words.specs.laws.Pointer.{at-end-iff, goes-on, atEndWas, as-before}
 use Rattle.words.specs.laws.Buffer.{Buffer, room, Steps, Serves, Follow, left, ends}
 use Rattle.words.specs.Byte.{halfAt, byteAt, storeByte, wordIf, byteIf}
@@ -153,22 +157,21 @@ module _ (m : List ℕ) (a : ℕ) (q : Port) (filling : Filling (icwOf m a)) whe
       by true r = r
       by false r = absurd (false≢true (sym (or-false (lastOf m a) (busyOf m a q) (quiet m a q filling r .1) .0) ∙ at-end-iff (bufferOf m a .pointer) (bufferOf m a .end) .1 h))
 
-  -- after IBP 65535 it is done whatever LIB is, and if it is stored its byte is in the left half of word 0, unless ICW is that word
-  pub from-top : Placed m a → q .ch .byte < 256 → bufferOf m a .pointer ≡ 65535 → bufferOf m a .end < 65536 → apart m a q ≡ false → a ≢ 0 → (inputService m a q .effect .raised ≡ true) × (get LEFT (getD (after m a q) 0 0) ≡ storedByte (ascii (icwOf m a)) (q .ch .byte))
+  -- after IBP 65535 it is done whatever LIB is; if it is stored, its byte is in the left half of word 0, unless that word is ICW
+  pub from-top : bufferOf m a .pointer ≡ 65535 → bufferOf m a .end < 65536 → (inputService m a q .effect .raised ≡ true) × (Placed m a → q .ch .byte < 256 → apart m a q ≡ false → a ≢ 0 → get LEFT (getD (after m a q) 0 0) ≡ storedByte (ascii (icwOf m a)) (q .ch .byte))
   unfolding byteAt halfAt pick
-  from-top placed byte top word s n =
-      let first = first-ends (omega (arith, top, word)) in
+  from-top top word =
       let next : nextOf m a ≡ 0 = rw top in
-      let there = stored m a q placed filling (stored-fits (ascii (icwOf m a)) (q .ch .byte) byte) s (λ e. n (omega (arith, e, next))) in
-      (first, ap (λ (x : ℕ). byteAt (after m a q) x) (sym next) ∙ there .stored)
+      (first-ends (omega (arith, top, word)),
+      λ placed byte s n. ap (λ (x : ℕ). byteAt (after m a q) x) (sym next) ∙ stored m a q placed filling (stored-fits (ascii (icwOf m a)) (q .ch .byte) byte) s (λ e. n (omega (arith, e, next))) .stored)
 
 -- ---- the rule as it was
 
--- the service by the rule before K2, kept for the laws below
-unfoldable pub inputWas : List ℕ → ℕ → Port → Serviced
-inputWas m a q =
+-- the service, by any rule for the end
+unfoldable pub inputBy : (ℕ → ℕ → Bool) → List ℕ → ℕ → Port → Serviced
+inputBy rule m a q =
     let c = q .ch .byte in
-    let last = atEndWas (bufferOf m a .pointer) (bufferOf m a .end) in
+    let last = rule (bufferOf m a .pointer) (bufferOf m a .end) in
     let plan = inputPlan (icwOf m a) (codeOf q) c last (isSpecial c) (q .empty) in
     serviced
     (record {
@@ -180,10 +183,14 @@ inputWas m a q =
     })
     (carried plan a (nextOf m a) m)
 
--- where IBP + 1 is below LIB or equal to it, a service is what it was
-pub same-service : (m : List ℕ) (a : ℕ) (q : Port) → bufferOf m a .end < 65536 → bufferOf m a .pointer + 1 ≤ bufferOf m a .end → inputService m a q ≡ inputWas m a q
-unfolding inputService inputWas
-same-service m a q word h = rw (as-before (bufferOf m a .pointer) (bufferOf m a .end) word h)
+pub by-the-rule : (m : List ℕ) (a : ℕ) (q : Port) → inputService m a q ≡ inputBy atEnd m a q
+unfolding inputService inputBy
+by-the-rule m a q = refl
+
+-- where IBP + 1 is below LIB or equal to it, it is the service by the rule before K2
+pub same-service : (m : List ℕ) (a : ℕ) (q : Port) → bufferOf m a .end < 65536 → bufferOf m a .pointer + 1 ≤ bufferOf m a .end → inputService m a q ≡ inputBy atEndWas m a q
+unfolding inputBy
+same-service m a q word h = by-the-rule m a q ∙ rw (as-before (bufferOf m a .pointer) (bufferOf m a .end) word h)
 
 -- IBP 2003 with LIB 2003 in a block at word 64: a character of code 255 with no error, in automatic mode
 abbrev pub short : Visit 64
@@ -210,6 +217,6 @@ unfolding run
 short-ends = input-ends 64 (found 64 short) (short ∷ []) short-open (refl, tt) (lit≤ tt)
 
 -- by the rule as it was INDONE was clear after it, and IBP past LIB
-pub short-ran-on : bufferOf (inputWas (short .memory) 64 (short .port) .memory) 64 ≡ record { control = 0o40000; pointer = 2004; end = 2003 }
-unfolding inputWas atEndWas inputPlan carried errorCode ascii storedPlan get put storedByte wordIf byteIf storeByte halfAt pick bit isSpecial
+pub short-ran-on : bufferOf (inputBy atEndWas (short .memory) 64 (short .port) .memory) 64 ≡ record { control = 0o40000; pointer = 2004; end = 2003 }
+unfolding inputBy atEndWas inputPlan carried errorCode ascii storedPlan get put storedByte wordIf byteIf storeByte halfAt pick bit isSpecial
 short-ran-on = refl

@@ -10,7 +10,7 @@
 -- Not here: a character in automatic mode, 7-bit ASCII or not, in Automatic; every other word and byte of the memory, in Kept; which codes are special, in words' Special; the glottal stop of an inspection, a
 -- sweep and a call, in laws/Glottal of scan, sweep and door.
 -- Assumes nothing.
-use mathlib.Core.Path.{_≡_, _∙_, ap, sym}
+use mathlib.Core.Path.{_≡_, _∙_, ap, refl, sym}
 use mathlib.Core.Bool.{true, false, not, or-true, and-false}
 use mathlib.Core.List.{List}
 use mathlib.Core.Logic.{_≢_}
@@ -30,10 +30,10 @@ use Rattle.words.specs.laws.Special.{special-high}
 use Rattle.unit.specs.declared.mux.Port.{Port}
 use Rattle.unit.specs.laws.Sound.{Placed}
 use Rattle.input.specs.declared.plan.Plan.{Plan}
-use Rattle.input.specs.Input.{errorCode, ascii, replacedICW, doneICW, replacedPlan, donePlan, inputPlan, carried, inputService}
+use Rattle.input.specs.Input.{errorCode, ascii, replacedPlan, donePlan, inputPlan, carried, inputService}
 use Rattle.input.specs.laws.Word.{code-fits, done-character, done-mark, done-flags, done-ascii, done-mode, done-overload, done-done, replaced-character, replaced-overload, replaced-flags, replaced-done}
 use Rattle.input.specs.laws.Kept.{icwOf, codeOf, planOf, nextOf, after, kept-length, Unstored, indone-set, in-error, special-code, kept-unstored}
-use Rattle.input.specs.laws.Automatic.{Filling, apart, reportedPlan, bufferedPlan, automatic, that-word, Stored, stored}
+use Rattle.input.specs.laws.Automatic.{Filling, apart, reportedPlan, bufferedPlan, automatic, written, Stored, stored}
 
 -- 7-bit ASCII automatic mode, with echo or without, and INDONE clear as read
 pub record Automatic (m : List ℕ) (a : ℕ) : Type 0 where
@@ -73,9 +73,8 @@ module _ (m : List ℕ) (a : ℕ) (q : Port) (placed : Placed m a) (h : Automati
   reported t u =
       let icw = icwOf m a in
       let c = q .ch .byte in
-      let w = doneICW icw (codeOf q) 0 c in
       let planned = automatic m a q (h .filling) ∙ pick-true (apart m a q) (reportedPlan m a q) (bufferedPlan m a q) t in
-      let there = that-word m a q w placed (ap (λ (p : Plan). carried p a (nextOf m a) m) planned) in
+      let there = written m a q (reportedPlan m a q) placed planned refl in
       let fits = code-fits (q .control) (q .ch) in
       let byte = top-bit icw c (h .ascii) .0 in
       let below : wordByte (ascii icw) c < 256 = omega (arith, byte) in
@@ -157,9 +156,8 @@ unfolding inputService inputPlan replacedPlan carried wordIf byteIf pick
 takes m a q h byte d =
     let icw = icwOf m a in
     let c = q .ch .byte in
-    let w = replacedICW icw (codeOf q) c in
     let planned : planOf m a q ≡ replacedPlan icw (codeOf q) c = rw d in
-    let there = that-word m a q w h (ap (λ (p : Plan). carried p a (nextOf m a) m) planned) in
+    let there = written m a q (replacedPlan icw (codeOf q) c) h planned refl in
     let fits = code-fits (q .control) (q .ch) in
     record {
       no-interrupt = ap (λ (p : Plan). p .raised) planned;

@@ -6,7 +6,7 @@
 --   Unstored      steps 1 to 5, each by its own condition: the character does not go to the buffer
 --   kept-unstored so every word but ICW is as it was
 --   kept-dropped  and where the mode asks for no input, the whole memory is
--- Not here: what the words that may change become, in Word and Glottal; the port's own changes, in scan.
+-- Not here: what the words that may change become, in Word, Automatic and Glottal; the port's own changes, in scan.
 -- Assumes nothing.
 use mathlib.Core.Path.{_≡_, _∙_, ap, refl}
 use mathlib.Core.Bool.{Bool, true, false, not, _&&_}

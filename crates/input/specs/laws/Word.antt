@@ -2,7 +2,7 @@
 --   code-fits     an error code is one of the four
 --   done-..       of the word of a character that is done
 --   replaced-..   of the word where a character replaced the one before
--- Not here: when ICW is written at all, in Input; that the host's memory then has the word, in Glottal.
+-- Not here: when ICW is written at all, in Input; that the host's memory then has the word, in Automatic.
 -- Assumes nothing.
 use mathlib.Core.Path.{_≡_, _∙_, refl}
 use mathlib.Core.Bool.{Bool, true, false, _&&_}

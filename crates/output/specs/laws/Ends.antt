@@ -1,11 +1,14 @@
 -- A buffer of automatic output ends (document 02, K2).
---   bufferOf, Visit   OCW, OBP and LOB of a port; one of its output services, with the memory and the port that it finds
---   Sending, Open     automatic mode with OUTDONE clear; and LOB a word
---   steps             a byte that is not done: OBP one on with no jump to 0, LOB − OBP one less
---   output-ends       so after max(1, LOB − OBP) output services OUTDONE is set, whatever becomes of every other word meanwhile
---   first-ends, from-top   a byte is done where LOB is at most OBP + 1: so after 65535, where it is the left half of word 0
---   outputWas, same-service   the service by the rule as it was: the same where OBP + 1 is below LOB or equal to it
---   short ..          OBP 2003 with LOB 2003: one service ends it, and by the rule as it was it ran on
+--   bufferOf, Sending          OCW, OBP and LOB of a port; automatic mode with OUTDONE clear
+--   ocwOf .. fetchedOf         OCW, the pointer of the next byte, whether the buffer ends with it, and the byte
+--   ocw-after, obp-after       OCW and OBP after a service
+--   next-below, steps          a byte that raises no interrupt: OBP one on with no jump to 0, and LOB − OBP one less
+--   Visit, found, leaves       an output service, with the memory and the port that it finds; the three words that it finds and leaves
+--   Open, open-edge, Done      automatic mode with OUTDONE clear, LOB a word; OUTDONE set
+--   serves, output-ends        so after max(1, LOB − OBP) output services OUTDONE is set, whatever becomes of every other word meanwhile
+--   first-ends, from-top       a byte is done where LOB is at most OBP + 1: so after 65535, where it is the left half of word 0
+--   outputBy, by-the-rule, same-service   by the rule as it was: the same where OBP + 1 is below LOB or equal to it
+--   short ..                   OBP 2003 with LOB 2003: one service ends it, and by the rule as it was it ran on
 -- Not here: services one after the other, and the count, in words, laws/Buffer; when the end is reached, in words, laws/Pointer; an input of
 -- the same port that lies on LOB, in calls, Examples.
 -- Assumes nothing.
@@ -50,7 +53,7 @@ pub record Sending (ocw : ℕ) : Type 0 where
 
 -- ---- one service
 
--- OCW of the port, the pointer of the buffer's next byte, whether that is the last, and the byte: the pointer is written before it is fetched
+-- OCW of the port, the pointer of the buffer's next byte, whether the buffer ends with it, and the byte: the pointer is written before it is fetched
 abbrev pub ocwOf : List ℕ → ℕ → ℕ
 ocwOf m a = getD m (a + atOCW) 0
 
@@ -179,11 +182,11 @@ module _ (m : List ℕ) (a : ℕ) (q : Port) (sending : Sending (ocwOf m a)) whe
 
 -- ---- the rule as it was
 
--- the service by the rule before K2, kept for the laws below
-unfoldable pub outputWas : List ℕ → ℕ → Port → Serviced
-outputWas m a q =
+-- the service, by any rule for the end
+unfoldable pub outputBy : (ℕ → ℕ → Bool) → List ℕ → ℕ → Port → Serviced
+outputBy rule m a q =
     let ocw = ocwOf m a in
-    let last = atEndWas (bufferOf m a .pointer) (bufferOf m a .end) in
+    let last = rule (bufferOf m a .pointer) (bufferOf m a .end) in
     let plan = outputPlan ocw q (fetchedOf m a) last (isSpecial (fetchedOf m a)) in
     let done = not (outDone ocw) && (plan .done || becomesChanged ocw (q .devstatus)) in
     serviced
@@ -191,10 +194,14 @@ outputWas m a q =
     { sent = plan .sent; byte = plan .byte; raised = done; control = plan .control; devcontrol = plan .devcontrol })
     (set (stepped m a) (a + atOCW) (writtenOCW ocw (q .devstatus) done))
 
--- where OBP + 1 is below LOB or equal to it, a service is what it was
-pub same-service : (m : List ℕ) (a : ℕ) (q : Port) → bufferOf m a .end < 65536 → bufferOf m a .pointer + 1 ≤ bufferOf m a .end → outputService m a q ≡ outputWas m a q
-unfolding outputService outputWas stepped
-same-service m a q word h = rw (as-before (bufferOf m a .pointer) (bufferOf m a .end) word h)
+pub by-the-rule : (m : List ℕ) (a : ℕ) (q : Port) → outputService m a q ≡ outputBy atEnd m a q
+unfolding outputService outputBy stepped
+by-the-rule m a q = refl
+
+-- where OBP + 1 is below LOB or equal to it, it is the service by the rule before K2
+pub same-service : (m : List ℕ) (a : ℕ) (q : Port) → bufferOf m a .end < 65536 → bufferOf m a .pointer + 1 ≤ bufferOf m a .end → outputService m a q ≡ outputBy atEndWas m a q
+unfolding outputBy
+same-service m a q word h = by-the-rule m a q ∙ rw (as-before (bufferOf m a .pointer) (bufferOf m a .end) word h)
 
 -- OBP 2003 with LOB 2003 in a block at word 64, in automatic mode
 abbrev pub short : Visit 64
@@ -215,6 +222,6 @@ unfolding run
 short-ends = output-ends 64 (found 64 short) (short ∷ []) short-open (refl, tt) (lit≤ tt)
 
 -- by the rule as it was OUTDONE was clear after it, and OBP past LOB
-pub short-ran-on : bufferOf (outputWas (short .memory) 64 (short .port) .memory) 64 ≡ record { control = 0o20000; pointer = 2004; end = 2003 }
-unfolding outputWas atEndWas stepped outputPlan outDone isAuto autoPlan differs statusBits becomesChanged writtenOCW get put byteAt halfAt wordIf pick bit isSpecial
+pub short-ran-on : bufferOf (outputBy atEndWas (short .memory) 64 (short .port) .memory) 64 ≡ record { control = 0o20000; pointer = 2004; end = 2003 }
+unfolding outputBy atEndWas stepped outputPlan outDone isAuto autoPlan differs statusBits becomesChanged writtenOCW get put byteAt halfAt wordIf pick bit isSpecial
 short-ran-on = refl

@@ -1,8 +1,9 @@
 -- What an output service may change in the host's memory (document 01, Output): OCW, and OBP where the mode is automatic.
+--   stepped        the memory with the pointer stepped, where the mode is automatic
 --   kept-length    the memory keeps its length
 --   kept-word      every word but OCW and OBP is as it was
 --   kept-pointer   where the service is no automatic output, OBP is as it was too
--- Not here: what OCW and OBP become, in Output itself; the port's own changes, in scan.
+-- Not here: what OCW and OBP become, in Output itself, and in Word and Ends; the port's own changes, in scan.
 -- Assumes nothing.
 use mathlib.Core.Path.{_≡_, _∙_, ap}
 use mathlib.Core.Bool.{Bool, false}

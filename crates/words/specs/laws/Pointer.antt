@@ -1,5 +1,5 @@
 -- The end of a buffer (document 02, K2), for input and output alike.
---   two-thousand .. last-ends   the request's own numbers, computed
+--   two-thousand, last-ends   the request's own pointers with ends around them, computed
 --   at-end-iff           the end is reached exactly where it is at most the old pointer + 1
 --   top-ends, zero-ends  so after 65535 every buffer ends, and an end of 0 is reached with the first byte
 --   goes-on              where it is not reached, the pointer steps by one with no jump to 0
