@@ -105,6 +105,23 @@ pub record Open (a : ℕ) (b : Buffer) : Type 0 where
   pub word : b .end < 65536
   pub beside : (x : ℕ) → b .pointer < x → x < b .end → Beside a x
 
+-- so a buffer of two bytes is open whose last is the left half of its own ICW, the word 64; and one that begins after its own LIB, the word 70,
+-- and goes to the end of the memory
+pub open-edges : Open 64 (record { control = 0o40000; pointer = 126; end = 128 }) × Open 64 (record { control = 0o60000; pointer = 141; end = 65535 })
+unfolding get
+open-edges = (
+  record {
+    filling = record { clear = refl; mode = inl refl };
+    word = lit< tt;
+    beside = λ x h k. record { icw = λ e. omega (arith, h, k, e); ibp = λ e. omega (arith, h, k, e); lib = λ e. omega (arith, h, k, e) };
+  },
+  record {
+    filling = record { clear = refl; mode = inr refl };
+    word = lit< tt;
+    beside = λ x h k. record { icw = λ e. omega (arith, h, k, e); ibp = λ e. omega (arith, h, k, e); lib = λ e. omega (arith, h, k, e) };
+  },
+)
+
 -- an open buffer is then done, or steps on and stays open; a buffer that is done stays done
 pub serves : (a : ℕ) (v : Visit a) → Serves (Open a) Done (found a v) (leaves a v)
 serves a v =
@@ -124,22 +141,6 @@ serves a v =
           },
           s .0,
         )
-
--- so a buffer of two bytes is open whose last is the left half of its own ICW, the word 64; and one that begins after its own LIB, the word 70,
--- and goes to the end of the memory
-pub open-edges : Open 64 (record { control = 0o40000; pointer = 126; end = 128 }) × Open 64 (record { control = 0o60000; pointer = 141; end = 65535 })
-unfolding get
-open-edges =
-    (record {
-      filling = record { clear = refl; mode = inl refl };
-      word = lit< tt;
-      beside = λ x h k. record { icw = λ e. omega (arith, h, k, e); ibp = λ e. omega (arith, h, k, e); lib = λ e. omega (arith, h, k, e) };
-    },
-    record {
-      filling = record { clear = refl; mode = inr refl };
-      word = lit< tt;
-      beside = λ x h k. record { icw = λ e. omega (arith, h, k, e); ibp = λ e. omega (arith, h, k, e); lib = λ e. omega (arith, h, k, e) };
-    })
 
 -- a buffer ends: with ICW, IBP and LIB as the port's own input services left them, as many of these as max(1, LIB − IBP), or more, set INDONE.
 -- Every other word may have changed between them
@@ -161,9 +162,10 @@ module _ (m : List ℕ) (a : ℕ) (q : Port) (filling : Filling (icwOf m a)) whe
   pub from-top : bufferOf m a .pointer ≡ 65535 → bufferOf m a .end < 65536 → (inputService m a q .effect .raised ≡ true) × (Placed m a → q .ch .byte < 256 → apart m a q ≡ false → a ≢ 0 → get LEFT (getD (after m a q) 0 0) ≡ storedByte (ascii (icwOf m a)) (q .ch .byte))
   unfolding byteAt halfAt pick
   from-top top word =
-      let next : nextOf m a ≡ 0 = rw top in
-      (first-ends (omega (arith, top, word)),
-      λ placed byte s n. ap (λ (x : ℕ). byteAt (after m a q) x) (sym next) ∙ stored m a q placed filling (stored-fits (ascii (icwOf m a)) (q .ch .byte) byte) s (λ e. n (omega (arith, e, next))) .stored)
+      let next : nextOf m a ≡ 0 = rw top in (
+        first-ends (omega (arith, top, word)),
+        λ placed byte s n. ap (λ (x : ℕ). byteAt (after m a q) x) (sym next) ∙ stored m a q placed filling (stored-fits (ascii (icwOf m a)) (q .ch .byte) byte) s (λ e. n (omega (arith, e, next))) .stored,
+      )
 
 -- ---- the rule as it was
 
