@@ -2,14 +2,14 @@
 --   Starred   the examples of document 01, in its order
 --   Manual    001: section 6 and appendix B, as docs/DECISIONS.md makes them
 --   Bases     document 02, K1: where the two numbers of a wrong base begin and end
---   Buffers   document 02, K2: buffers that are set up too short, and two that lie on their own words
+--   Buffers   document 02, K2: buffers that are set up too short, and buffers that lie on their own port's words
 -- Each is computed: a unit is set up and started, calls are made, and what they leave is compared.
 -- Not here: that they hold, in laws/Examples; the examples that are run and not proved, in the programs.
 -- Assumes nothing.
 use mathlib.Core.Path.{_≡_}
 use mathlib.Core.Bool.{true, false}
 use mathlib.Core.List.{List, [], _∷_}
-use Prim.Native.Nat.{ℕ}
+use Prim.Native.Nat.{ℕ, _+_}
 use lib.ListN.{getD, set, replicate}
 use Rattle.words.specs.Field.{get}
 use Rattle.words.specs.Codes.{PARITY-INHIBIT, STOP-BAUDS, EVEN-PARITY}
@@ -186,9 +186,9 @@ onLOB = set (set (set (emptying 2000 2002) 64 0o40000) 68 141) 70 300
 abbrev pub besideLOB : List ℕ
 besideLOB = set (set (set (emptying 2000 2002) 64 0o40000) 68 199) 70 300
 
--- a block at word 128 whose next place, 265, is the right half of its own IBP; a character of code 8 is typed and served
-abbrev pub onIBP : List ℕ
-onIBP = unitAfter 8 1 128 (set (set (set clear 128 0o40000) 132 264) 134 300) (typed 0 8 ∷ look ∷ []) .memory
+-- a buffer of two bytes for eight-bit characters, OCW 40060 octal; then two characters of code c are typed, each served
+abbrev pub twice : ℕ → ℕ → List ℕ
+twice ibp c = unitAfter 8 1 64 (set (filling ibp (ibp + 2)) 65 0o40060) (look ∷ typed 0 c ∷ look ∷ typed 0 c ∷ look ∷ []) .memory
 
 pub record Buffers : Type 0 where
   -- IBP 2003 with LIB 2003: stored at 2004, the left half of word 1002, and done
@@ -224,6 +224,10 @@ pub record Buffers : Type 0 where
   pub across-pointer : getD (crossed onLOB) 69 0 ≡ 2002
   pub across-not-done : getD (crossed onLOB) 65 0 ≡ 0o20000
   pub across-end : getD (crossed onLOB) 71 0 ≡ 0x1FD2
-  -- an input buffer on its own IBP: the character puts IBP back to 264 and is not done, so that such a buffer may have no end
-  pub back-pointer : getD onIBP 132 0 ≡ 264
-  pub back-not-done : getD onIBP 128 0 ≡ 0o40000
+  -- two characters end an input buffer of two bytes that lies elsewhere; not one on its own ICW, whose mode they change, nor one on its
+  -- own LIB, which they move, nor one on its own IBP, which they put back: that one may have no end
+  pub own-none : getD (twice 2000 136) 64 0 ≡ 0o140210
+  pub own-icw : getD (twice 127 32) 64 0 ≡ 0o20000
+  pub own-lib : getD (twice 139 255) 64 0 ≡ 0o40000
+  pub own-ibp : getD (twice 136 136) 64 0 ≡ 0o40000
+  pub own-ibp-back : getD (twice 136 136) 68 0 ≡ 136

@@ -127,6 +127,9 @@ buffers =
       across-pointer = refl;
       across-not-done = refl;
       across-end = refl;
-      back-pointer = refl;
-      back-not-done = refl;
+      own-none = refl;
+      own-icw = refl;
+      own-lib = refl;
+      own-ibp = refl;
+      own-ibp-back = refl;
     }
