@@ -7,7 +7,7 @@
 --   turn                  which it is
 -- Not here: where the port stands in the record, and the position, in Scan; what follows, in laws/Scan.
 -- Assumes nothing.
-use mathlib.Core.Bool.{Bool, true, false, not, _&&_}
+use mathlib.Core.Bool.{Bool, false, not, _&&_}
 use mathlib.Core.List.{List}
 use Prim.Native.Nat.{ℕ}
 use Rattle.ground.specs.Choose.{pick}

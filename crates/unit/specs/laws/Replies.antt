@@ -6,8 +6,8 @@
 --   setup-accepted, -refused     of setup: a fresh unit, or the number and the record of zeros
 -- Not here: what a reply is, in specs/Reply; that every call answers so, in calls, laws/Refusals.
 -- Assumes nothing.
-use mathlib.Core.Path.{_≡_, refl, sym}
-use mathlib.Core.List.{List, [], _∷_, map}
+use mathlib.Core.Path.{_≡_, refl}
+use mathlib.Core.List.{[], _∷_, map}
 use Prim.Native.Nat.{ℕ}
 use native.Mathlib.Decide.{ℕ-discrete}
 use lib.Dec.{eqb}

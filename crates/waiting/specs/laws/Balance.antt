@@ -35,7 +35,6 @@ use Rattle.calls.specs.laws.Places.{single-places}
 use Rattle.waiting.specs.Counting.{serviceAt, inputAt, takesAt, holdsAt, replacesAt, dropsAt}
 use Rattle.waiting.specs.Waiting.{taken, inputs, NotAgain}
 use Rattle.waiting.specs.laws.View.{Tested, View, turn, arrives, clear, stop, quiet, view, turn-moves}
-use Rattle.waiting.specs.laws.Tests.{tests}
 
 -- ---- a turn
 
