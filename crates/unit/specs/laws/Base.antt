@@ -1,33 +1,32 @@
 -- The two numbers of a wrong base, and what telling them apart changed (document 02, K1).
 --   OnlyHigh                 a base that is too high and has no other fault that is asked before
 --   misaligned-iff, too-high-iff   3 and 11, each in numbers: exactly where its row applies and none before it
---   badBaseWas .. callRowsWas      row 3, setup's table, setup, row 6 and the table of the other calls as document 01 has them: for the comparison alone
+--   badBaseWas, rowsWas      row 3 and setup's table as document 01 has them: for the comparison alone
 --   as-before                every setup answers as it did, but for OnlyHigh: 11 in the place of 3
 --   sound-as-before, calls-as-before   row 6 refuses the same records, and every other call is refused as it was
--- Not here: the table itself, in specs/Refusals; the law for every row, in Refusals.
+-- Not here: the table itself, in specs/Refusals; the law for every row, in Refusals; setup, row 6 and the other calls by any rows, in Tables.
 -- Assumes nothing.
 use mathlib.Core.Path.{_≡_, refl, sym, ap, _∙_}
 use mathlib.Core.Bool.{Bool, true, false, true≢false, not, _||_}
 use mathlib.Core.List.{List, [], _∷_, _++_}
 use mathlib.Core.Logic.{_↔_}
-use mathlib.Core.Option.{Option, some, none}
+use mathlib.Core.Option.{none}
 use Prim.Native.Nat.{ℕ, _*_, _%_, _<_, _≤_}
 use native.Mathlib.Omega.{arith}
-use lib.Dec.{eqb, leb, ltb}
-use lib.ListN.{drop}
-use Rattle.ground.specs.Choose.{pick, asked, Row, row, firstOf}
+use lib.Dec.{eqb, ltb}
+use Rattle.ground.specs.Choose.{pick, Row, row, firstOf}
 use Rattle.ground.specs.laws.Rows.{first-zero, never, first-at}
-use Rattle.interrupt.specs.Interrupt as Interrupt
 use Rattle.unit.specs.declared.mux.Setting.{Setting}
 use Rattle.unit.specs.declared.mux.Mux.{Mux}
 use Rattle.unit.specs.declared.reply.Replied.{Replied}
 use Rattle.unit.specs.Record.{fresh, noMux}
 use Rattle.unit.specs.Reply.{refused, accepted, guarded}
-use Rattle.unit.specs.Refusals.{MISALIGNED, TOO-HIGH, badBlock, badPorts, misaligned, tooHigh, crosses, overruns, sizeRows, baseRows, areaRows, settingRows, unsound, Given, rowsOf, callRows, tableOf, refusal, ofSetup}
+use Rattle.unit.specs.Refusals.{MISALIGNED, TOO-HIGH, badBlock, badPorts, misaligned, tooHigh, crosses, overruns, sizeRows, baseRows, areaRows, settingRows, unsound, Given, refusal, ofSetup}
 use Rattle.unit.specs.Setup.{setup}
 use Rattle.unit.specs.Sound.{SizeFits}
 use Rattle.unit.specs.laws.Refusals.{setup-refusal}
 use Rattle.unit.specs.laws.Sound.{good-base, low-base, size-fits}
+use Rattle.unit.specs.laws.Tables.{setupBy, unsoundBy, callRowsBy, Alike, same-sound, same-calls}
 
 -- ---- the two numbers, each in numbers
 
@@ -90,62 +89,48 @@ rowsWas s =
     ∷ row 5 (overruns (s .block) (s .ports) (s .base))
     ∷ []
 
--- setup
-unfoldable pub setupWas : Setting → Replied
-setupWas s = guarded (firstOf (rowsWas s)) noMux (accepted 0 (fresh s))
-
--- row 6
-unfoldable pub unsoundWas : Mux → Bool
-unsoundWas u =
-    not (eqb (firstOf (rowsWas (u .setting))) 0)
-    || (leb (u .setting .ports) (u .pos) || Interrupt.unsound (u .irq))
-
--- the table of every call but setup: rows 7 to 10 are today's
-unfoldable pub callRowsWas : Given → List Row
-callRowsWas g = row 6 (asked (g .unit) (λ u. unsoundWas u)) ∷ drop 1 (callRows g)
-
 -- ---- what changed
 
 -- the numbers of the two tables: the same, or 11 where it was 3
-data Tables (now was : ℕ) : Type 0 where
-  alike : now ≡ was → Tables now was
-  apart : now ≡ TOO-HIGH → was ≡ 3 → Tables now was
+data Numbers (now was : ℕ) : Type 0 where
+  equal : now ≡ was → Numbers now was
+  apart : now ≡ TOO-HIGH → was ≡ 3 → Numbers now was
 
 -- whatever the tests of their first rows are
-by-tests : (a b m h : Bool) (k : ℕ) → Tables (pick a 1 (pick b 2 (pick m 3 (pick h 11 k)))) (pick a 1 (pick b 2 (pick (m || h) 3 k)))
+by-tests : (a b m h : Bool) (k : ℕ) → Numbers (pick a 1 (pick b 2 (pick m 3 (pick h 11 k)))) (pick a 1 (pick b 2 (pick (m || h) 3 k)))
 unfolding pick
-by-tests true b m h k = alike refl
-by-tests false true m h k = alike refl
-by-tests false false true h k = alike refl
+by-tests true b m h k = equal refl
+by-tests false true m h k = equal refl
+by-tests false false true h k = equal refl
 by-tests false false false true k = apart refl refl
-by-tests false false false false k = alike refl
+by-tests false false false false k = equal refl
 
-tables : (s : Setting) → Tables (refusal (ofSetup s)) (firstOf (rowsWas s))
+numbers : (s : Setting) → Numbers (refusal (ofSetup s)) (firstOf (rowsWas s))
 unfolding settingRows sizeRows baseRows areaRows rowsWas badBaseWas misaligned tooHigh firstOf
-tables s =
+numbers s =
     rw (setup-refusal s)
     (by-tests (badBlock (s .block)) (badPorts (s .ports)) (misaligned (s .block) (s .base)) (tooHigh (s .base)) (firstOf (areaRows s)))
 
 -- a setup answers as it did, but for one case
 pub record AsBefore (s : Setting) : Type 0 where
   -- what was taken is taken, with the same record, and nothing else is
-  pub was-taken : setupWas s .reply .code ≡ 0 → setup s ≡ setupWas s
-  pub is-taken : setup s .reply .code ≡ 0 → setup s ≡ setupWas s
+  pub was-taken : setupBy rowsWas s .reply .code ≡ 0 → setup s ≡ setupBy rowsWas s
+  pub is-taken : setup s .reply .code ≡ 0 → setup s ≡ setupBy rowsWas s
   -- a base that is only too high had 3 and has 11
-  pub changed : OnlyHigh s → (setupWas s ≡ refused 3 noMux) × (setup s ≡ refused 11 noMux)
+  pub changed : OnlyHigh s → (setupBy rowsWas s ≡ refused 3 noMux) × (setup s ≡ refused 11 noMux)
   -- any other answer is the same, number and record
-  pub same : (OnlyHigh s → ⊥) → setup s ≡ setupWas s
+  pub same : (OnlyHigh s → ⊥) → setup s ≡ setupBy rowsWas s
 
 pub as-before : (s : Setting) → AsBefore s
-unfolding setup setupWas guarded pick rowsWas
-as-before s = go (tables s)
+unfolding setup setupBy guarded pick rowsWas
+as-before s = go (numbers s)
   where
     answer : ℕ → Replied
     answer k = guarded k noMux (accepted 0 (fresh s))
 
-    go : Tables (refusal (ofSetup s)) (firstOf (rowsWas s)) → AsBefore s
-    go (alike e) =
-        let w : setup s ≡ setupWas s = ap answer e in
+    go : Numbers (refusal (ofSetup s)) (firstOf (rowsWas s)) → AsBefore s
+    go (equal e) =
+        let w : setup s ≡ setupBy rowsWas s = ap answer e in
         record {
           was-taken = λ _. w;
           is-taken = λ _. w;
@@ -153,7 +138,7 @@ as-before s = go (tables s)
           same = λ _. w;
         }
     go (apart now was) =
-        let three : setupWas s ≡ refused 3 noMux = ap answer was in
+        let three : setupBy rowsWas s ≡ refused 3 noMux = ap answer was in
         let eleven : setup s ≡ refused 11 noMux = ap answer now in
         record {
           was-taken = λ e. let z : _≡_ {A = ℕ} 3 0 = sym (ap (λ r. r .reply .code) three) ∙ e in absurd (omega arith);
@@ -163,24 +148,18 @@ as-before s = go (tables s)
         }
 
 -- both tables give 0 together
-zero-together : (now was : ℕ) → Tables now was → eqb now 0 ≡ eqb was 0
-zero-together now was (alike e) = rw e
+zero-together : (now was : ℕ) → Numbers now was → eqb now 0 ≡ eqb was 0
+zero-together now was (equal e) = rw e
 zero-together now was (apart e f) = rw (e, f)
 
--- row 6 refuses the same records
-pub sound-as-before : (u : Mux) → unsound u ≡ unsoundWas u
-unfolding unsound unsoundWas
-sound-as-before u =
-    ap (λ t. not t || (leb (u .setting .ports) (u .pos) || Interrupt.unsound (u .irq)))
-    (zero-together _ _ (rw (setup-refusal (u .setting)) at (tables (u .setting))))
+-- the two tables let the same settings pass
+same-pass : Alike rowsWas
+same-pass s = zero-together _ _ (rw (setup-refusal s) at (numbers s))
 
--- of a record that may be absent, too
-asked-as-before : (u : Option Mux) → asked u (λ v. unsound v) ≡ asked u (λ v. unsoundWas v)
-unfolding asked
-asked-as-before none = refl
-asked-as-before (some u) = sound-as-before u
+-- row 6 refuses the same records
+pub sound-as-before : (u : Mux) → unsound u ≡ unsoundBy rowsWas u
+sound-as-before = same-sound rowsWas same-pass
 
 -- so every call that is no setup is refused as it was
-pub calls-as-before : (g : Given) → g .setting ≡ none → refusal g ≡ firstOf (callRowsWas g)
-unfolding refusal tableOf rowsOf callRows callRowsWas firstOf
-calls-as-before g e = rw (e, asked-as-before (g .unit))
+pub calls-as-before : (g : Given) → g .setting ≡ none → refusal g ≡ firstOf (callRowsBy rowsWas g)
+calls-as-before = same-calls rowsWas same-pass
