@@ -6,6 +6,7 @@
 --   Passed, first-zero    a table of numbers other than 0 gives 0 exactly where no row of it applies
 --   absent, never, first-at   a number that stands in no row is not given; one that stands in one row alone, exactly where that row applies and none before it
 --   first-then, first-stops, first-both   a table that is two tables, one after the other
+--   first-idle            a last row that does not apply where the others give 0 changes no number
 -- Not here: what a row and a table are, in specs/Choose; finding the branch that the code took, in Tests.
 -- Assumes nothing.
 use mathlib.Core.Path.{_≡_, refl, sym, _∙_}
@@ -178,3 +179,13 @@ first-both rs ss n = (λ e. go e (ℕ-discrete (firstOf rs) 0), λ h. first-then
     go : firstOf (rs ++ ss) ≡ 0 → Dec (firstOf rs ≡ 0) → (firstOf rs ≡ 0) × (firstOf ss ≡ 0)
     go e (yes z) = (z, sym (first-then rs ss n z) ∙ e)
     go e (no h) = absurd (h (sym (first-stops rs ss h) ∙ e))
+
+-- a last row that does not apply where the rows before it give 0 changes no number
+pub first-idle : (rs : List Row) (r : Row) → (firstOf rs ≡ 0 → r .applies ≡ false) → firstOf (rs ++ (r ∷ [])) ≡ firstOf rs
+unfolding firstOf pick
+first-idle [] r idle = rw (idle refl)
+first-idle (q ∷ qs) r idle = go (q .applies) refl (first-idle qs r)
+  where
+    go : (t : Bool) → q .applies ≡ t → ((firstOf qs ≡ 0 → r .applies ≡ false) → firstOf (qs ++ (r ∷ [])) ≡ firstOf qs) → pick (q .applies) (q .number) (firstOf (qs ++ (r ∷ []))) ≡ pick (q .applies) (q .number) (firstOf qs)
+    go true a more = rw a
+    go false a more = rw a (more (λ e. idle (rw a e)))
