@@ -53,9 +53,6 @@ fn say_sentence(code: u8) {
                 b"the control area crosses a multiple of 128 times the block size\n",
             );
         }
-        5 => {
-            write_all(1, b"the control area ends past the memory\n");
-        }
         _ => {
             write_all(1, b"no sentence is known for this number\n");
         }

@@ -1,6 +1,6 @@
--- The numbers a call may refuse with (document 01, the table of that name; document 02, K1).
---   WORDS .. TOO-HIGH        the numbers and the limits, a name each
---   sizeRows, baseRows, areaRows   rows 1 to 5 and 11, for setup and, of a record's own setting, for row 6
+-- The numbers a call may refuse with (document 01, the table of that name; document 02, K1 and K10).
+--   WORDS .. TOO-HIGH        the limits and the numbers, a name each; the number between 4 and 6 is retired (K10)
+--   sizeRows, baseRows, areaRows   rows 1 to 4 and 11, for setup and, of a record's own setting, for row 6
 --   Given                    what a call is given: each argument where the call has one
 --   refusal                  the table: the first row that applies, and 0 where none does
 --   ofSetup .. ofSweep       what each kind of call is given
@@ -43,9 +43,6 @@ MISALIGNED = 3
 abbrev pub CROSSES : ℕ
 CROSSES = 4
 
-abbrev pub OVERRUNS : ℕ
-OVERRUNS = 5
-
 abbrev pub UNSOUND : ℕ
 UNSOUND = 6
 
@@ -86,10 +83,6 @@ tooHigh a = ltb 32767 a
 unfoldable pub crosses : ℕ → ℕ → ℕ → Bool
 crosses b n a = not (eqb (a / (128 * b)) ((a + n * b - 1) / (128 * b)))
 
--- base + P·b is above 32768
-unfoldable pub overruns : ℕ → ℕ → ℕ → Bool
-overruns b n a = ltb WORDS (a + n * b)
-
 -- ---- the table
 
 -- rows 1 and 2: the sizes
@@ -100,12 +93,11 @@ sizeRows s = row BAD-BLOCK (badBlock (s .block)) ∷ row BAD-PORTS (badPorts (s 
 unfoldable pub baseRows : Setting → List Row
 baseRows s = row MISALIGNED (misaligned (s .block) (s .base)) ∷ row TOO-HIGH (tooHigh (s .base)) ∷ []
 
--- rows 4 and 5: the area
+-- row 4: the area
 unfoldable pub areaRows : Setting → List Row
-areaRows s =
-    row CROSSES (crosses (s .block) (s .ports) (s .base)) ∷ row OVERRUNS (overruns (s .block) (s .ports) (s .base)) ∷ []
+areaRows s = row CROSSES (crosses (s .block) (s .ports) (s .base)) ∷ []
 
--- rows 1, 2, 3, 11, 4 and 5
+-- rows 1, 2, 3, 11 and 4
 unfoldable pub settingRows : Setting → List Row
 settingRows s = sizeRows s ++ (baseRows s ++ areaRows s)
 

@@ -12,7 +12,7 @@ use lib.ListN.{length}
 use Rattle.interrupt.specs.Interrupt as Interrupt
 use Rattle.unit.specs.declared.mux.Setting.{Setting}
 use Rattle.unit.specs.declared.mux.Mux.{Mux}
-use Rattle.unit.specs.Refusals.{WORDS, MOST-PORTS}
+use Rattle.unit.specs.Refusals.{MOST-PORTS}
 
 -- a block is 8, 16 or 32 words
 pub data IsBlock (b : ℕ) : Type 0 where
@@ -31,10 +31,9 @@ pub record BaseFits (s : Setting) : Type 0 where
   pub aligned : s .base % (8 * s .block) ≡ 0
   pub low : s .base ≤ 32767
 
--- rows 4 and 5 do not: the area
+-- row 4 does not: the area
 pub record AreaFits (s : Setting) : Type 0 where
   pub one : s .base / (128 * s .block) ≡ (s .base + s .ports * s .block - 1) / (128 * s .block)
-  pub inside : s .base + s .ports * s .block ≤ WORDS
 
 -- a setting that setup takes: no row of its table applies
 pub record Fits (s : Setting) : Type 0 where

@@ -1,9 +1,9 @@
-// The numbers a call may refuse with: the table of document 01 with K1's row, row by row, and what each kind of call asks for first.
+// The numbers a call may refuse with: the table of document 01 with K1's row and without the one that K10 took out, row by row, and what each kind of call asks for first.
 use crate::mux::Mux;
 use crate::mux::Setting;
 ghost use mathlib.Core.Path.{_≡_};
 ghost use Rattle.ground.specs.Choose.{firstOf};
-ghost use Rattle.unit.specs.Refusals.{badBlock, badPorts, misaligned, tooHigh, crosses, overruns, sizeRows, baseRows, areaRows, refusal, ofSetup, ofUnit, ofPort, ofInspection, ofSweep, unsound};
+ghost use Rattle.unit.specs.Refusals.{badBlock, badPorts, misaligned, tooHigh, crosses, sizeRows, baseRows, areaRows, refusal, ofSetup, ofUnit, ofPort, ofInspection, ofSweep, unsound};
 ghost use Rattle.unit.specs.Sound.{SizeFits, BaseFits};
 
 // How many words of memory are lent, how many ports a unit may have, how many inspections a sweep may ask for.
@@ -13,7 +13,7 @@ pub const MOST_PORTS: u32 = 128;
 
 pub const MOST_INSPECTIONS: u32 = 4096;
 
-// The numbers, with the names of specs/Refusals.antt.
+// The numbers, with the names of specs/Refusals.antt; the one between 4 and 6 is retired.
 pub const BAD_BLOCK: u8 = 1;
 
 pub const BAD_PORTS: u8 = 2;
@@ -21,8 +21,6 @@ pub const BAD_PORTS: u8 = 2;
 pub const MISALIGNED: u8 = 3;
 
 pub const CROSSES: u8 = 4;
-
-pub const OVERRUNS: u8 = 5;
 
 pub const UNSOUND: u8 = 6;
 
@@ -84,15 +82,6 @@ fn crosses(s: Setting) -> bool
     s.base / span != (s.base + s.ports * s.block - 1) / span
 }
 
-// Row 5: the area ends past word 32768.
-fn overruns(s: Setting) -> bool
-    requires { ⌜ SizeFits s ⌝ }
-    requires { ⌜ BaseFits s ⌝ }
-    ensures { λ r. ⌜ r ≡ overruns (s .block) (s .ports) (s .base) ⌝ }
-{
-    32768 < s.base + s.ports * s.block
-}
-
 // Rows 1 and 2: the sizes.
 fn size_code(s: Setting) -> u8
     ensures { λ r. ⌜ r ≡ firstOf (sizeRows s) ⌝ }
@@ -120,7 +109,7 @@ fn base_code(s: Setting) -> u8
     0
 }
 
-// Rows 4 and 5: the area.
+// Row 4: the area.
 fn area_code(s: Setting) -> u8
     requires { ⌜ SizeFits s ⌝ }
     requires { ⌜ BaseFits s ⌝ }
@@ -128,9 +117,6 @@ fn area_code(s: Setting) -> u8
 {
     if crosses(s) {
         return CROSSES;
-    }
-    if overruns(s) {
-        return OVERRUNS;
     }
     0
 }

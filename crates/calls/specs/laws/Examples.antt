@@ -17,7 +17,7 @@ use Rattle.interrupt.specs.Interrupt as Interrupt
 use Rattle.interrupt.specs.Interrupt.{busy, moreMarked, serviceMarked, statusAfter, raised, started, ticked, shown}
 use Rattle.unit.specs.Record.{portAt, blockAt, addressAt}
 use Rattle.unit.specs.Reply.{counts, guarded}
-use Rattle.unit.specs.Refusals.{badBlock, badPorts, misaligned, tooHigh, crosses, overruns, sizeRows, baseRows, areaRows, settingRows, unsound, rowsOf, callRows, tableOf, refusal}
+use Rattle.unit.specs.Refusals.{badBlock, badPorts, misaligned, tooHigh, crosses, sizeRows, baseRows, areaRows, settingRows, unsound, rowsOf, callRows, tableOf, refusal}
 use Rattle.unit.specs.Setup.{setup}
 use Rattle.lines.specs.Lines.{signalled, line}
 use Rattle.processor.specs.Processor.{order}
@@ -32,7 +32,7 @@ use Rattle.calls.specs.Examples.{turnsOf, Starred, Manual, Bases, Buffer
 
 -- every definition that a step of the unit computes with: to unfold this is to unfold them all
 unfoldable pub everything : Unit {0}
-unfolding pick bit asked firstOf Machine.run Machine.total get put storedByte wordByte echoedByte atEnd halfAt byteAt storeByte wordIf byteIf isSpecial lengthOf spanOf cut speedOf busy moreMarked serviceMarked statusAfter raised started ticked shown Interrupt.unsound portAt blockAt addressAt counts guarded badBlock badPorts misaligned tooHigh crosses overruns sizeRows baseRows areaRows settingRows unsound rowsOf callRows tableOf refusal setup signalled line Processor.after order errorCode ascii replacedICW doneICW replacedPlan donePlan storedPlan inputPlan carried inputService outDone isAuto autoPlan controlPlan singlePlan outputPlan differs statusBits becomesChanged writtenOCW outputService service took irqAfter servedTurn idleTurn turn nextPos serviceTurn scanned inspection setUp performed result counted turnsOf
+unfolding pick bit asked firstOf Machine.run Machine.total get put storedByte wordByte echoedByte atEnd halfAt byteAt storeByte wordIf byteIf isSpecial lengthOf spanOf cut speedOf busy moreMarked serviceMarked statusAfter raised started ticked shown Interrupt.unsound portAt blockAt addressAt counts guarded badBlock badPorts misaligned tooHigh crosses sizeRows baseRows areaRows settingRows unsound rowsOf callRows tableOf refusal setup signalled line Processor.after order errorCode ascii replacedICW doneICW replacedPlan donePlan storedPlan inputPlan carried inputService outDone isAuto autoPlan controlPlan singlePlan outputPlan differs statusBits becomesChanged writtenOCW outputService service took irqAfter servedTurn idleTurn turn nextPos serviceTurn scanned inspection setUp performed result counted turnsOf
 everything = tt
 
 pub starred : Starred

@@ -97,9 +97,9 @@ Stretch n x k b =
 stretch : (n x k b : ℕ) → IsBlock b → Stretch n x k b
 stretch n x k =
     by-block (Stretch n x k)
-    (λ p m f g l. (record { aligned = m; low = omega arith }, record { one = omega arith; inside = omega arith }))
-    (λ p m f g l. (record { aligned = m; low = omega arith }, record { one = omega arith; inside = omega arith }))
-    (λ p m f g l. (record { aligned = m; low = omega arith }, record { one = omega arith; inside = omega arith }))
+    (λ p m f g l. (record { aligned = m; low = omega arith }, record { one = omega arith }))
+    (λ p m f g l. (record { aligned = m; low = omega arith }, record { one = omega arith }))
+    (λ p m f g l. (record { aligned = m; low = omega arith }, record { one = omega arith }))
 
 -- the multiple of 8 blocks at or below a word is not below the word's stretch
 abbrev Near : ℕ → ℕ → Type 0

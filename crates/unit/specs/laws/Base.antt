@@ -21,12 +21,13 @@ use Rattle.unit.specs.declared.mux.Mux.{Mux}
 use Rattle.unit.specs.declared.reply.Replied.{Replied}
 use Rattle.unit.specs.Record.{fresh, noMux}
 use Rattle.unit.specs.Reply.{refused, accepted, guarded}
-use Rattle.unit.specs.Refusals.{MISALIGNED, TOO-HIGH, badBlock, badPorts, misaligned, tooHigh, crosses, overruns, sizeRows, baseRows, areaRows, settingRows, unsound, Given, refusal, ofSetup}
+use Rattle.unit.specs.Refusals.{MISALIGNED, TOO-HIGH, badBlock, badPorts, misaligned, tooHigh, crosses, sizeRows, baseRows, areaRows, settingRows, unsound, Given, refusal, ofSetup}
 use Rattle.unit.specs.Setup.{setup}
 use Rattle.unit.specs.Sound.{SizeFits}
 use Rattle.unit.specs.laws.Refusals.{setup-refusal}
 use Rattle.unit.specs.laws.Sound.{good-base, low-base, size-fits}
-use Rattle.unit.specs.laws.Tables.{setupBy, unsoundBy, callRowsBy, Alike, same-sound, same-calls}
+use Rattle.unit.specs.laws.Area.{five, rowsWithFive, five-idle}
+use Rattle.unit.specs.laws.Tables.{setupBy, unsoundBy, callRowsBy, same-setup, Alike, same-sound, same-calls}
 
 -- ---- the two numbers, each in numbers
 
@@ -79,14 +80,14 @@ too-high-iff s =
 unfoldable pub badBaseWas : ℕ → ℕ → Bool
 badBaseWas b a = not (eqb (a % (8 * b)) 0) || ltb 32767 a
 
--- rows 1 to 5; the tests of the other rows are today's, which K1 left alone
+-- rows 1 to 5; the tests of 1, 2 and 4 are today's, and 5 is as K10 found it
 unfoldable pub rowsWas : Setting → List Row
 rowsWas s =
     row 1 (badBlock (s .block))
     ∷ row 2 (badPorts (s .ports))
     ∷ row 3 (badBaseWas (s .block) (s .base))
     ∷ row 4 (crosses (s .block) (s .ports) (s .base))
-    ∷ row 5 (overruns (s .block) (s .ports) (s .base))
+    ∷ five s
     ∷ []
 
 -- ---- what changed
@@ -106,10 +107,10 @@ by-tests false false false true k = apart refl refl
 by-tests false false false false k = equal refl
 
 numbers : (s : Setting) → Numbers (refusal (ofSetup s)) (firstOf (rowsWas s))
-unfolding settingRows sizeRows baseRows areaRows rowsWas badBaseWas misaligned tooHigh firstOf
+unfolding settingRows sizeRows baseRows areaRows rowsWithFive rowsWas badBaseWas misaligned tooHigh firstOf
 numbers s =
-    rw (setup-refusal s)
-    (by-tests (badBlock (s .block)) (badPorts (s .ports)) (misaligned (s .block) (s .base)) (tooHigh (s .base)) (firstOf (areaRows s)))
+    rw (setup-refusal s, ← five-idle s)
+    (by-tests (badBlock (s .block)) (badPorts (s .ports)) (misaligned (s .block) (s .base)) (tooHigh (s .base)) (firstOf (areaRows s ++ (five s ∷ []))))
 
 -- a setup answers as it did, but for one case
 pub record AsBefore (s : Setting) : Type 0 where
@@ -122,7 +123,7 @@ pub record AsBefore (s : Setting) : Type 0 where
   pub same : (OnlyHigh s → ⊥) → setup s ≡ setupBy rowsWas s
 
 pub as-before : (s : Setting) → AsBefore s
-unfolding setup setupBy guarded pick rowsWas
+unfolding setup setupBy guarded pick rowsWas five
 as-before s = go (numbers s)
   where
     answer : ℕ → Replied
@@ -130,7 +131,7 @@ as-before s = go (numbers s)
 
     go : Numbers (refusal (ofSetup s)) (firstOf (rowsWas s)) → AsBefore s
     go (equal e) =
-        let w : setup s ≡ setupBy rowsWas s = ap answer e in
+        let w = same-setup rowsWas s e in
         record {
           was-taken = λ _. w;
           is-taken = λ _. w;

@@ -1,18 +1,21 @@
 -- Laws of the table of refusals (document 01, of that name).
 --   given                        each number exactly when its row applies and none before it, of every kind of call
+--   never-five                   no call is refused with 5 (document 02, K10)
+--   setup-order, call-order      the numbers in the order in which they are asked
 --   setup-refusal, by-size ..    setup's number, part by part
 --   inspection-refusal, sweep-refusal   a call's number is that of the smaller call, and then its own rows
 -- Not here: the table itself, in specs/Refusals; what refusal 0 says in numbers, in Sound.
 -- Assumes nothing.
 use mathlib.Core.Path.{_≡_, refl, _∙_}
 use mathlib.Core.Bool.{Bool, true, false, not}
-use mathlib.Core.List.{List, _++_}
+use mathlib.Core.List.{List, [], _∷_, _++_, map}
 use mathlib.Core.Logic.{_↔_}
+use mathlib.Core.Option.{Option, some, none}
 use Prim.Native.Nat.{ℕ}
 use lib.Dec.{eqb, ltb}
 use lib.ListN.{length}
-use Rattle.ground.specs.Choose.{pick, asked, firstOf}
-use Rattle.ground.specs.laws.Rows.{Gives, first-gives, first-then, first-stops}
+use Rattle.ground.specs.Choose.{pick, asked, Row, firstOf}
+use Rattle.ground.specs.laws.Rows.{Gives, first-gives, absent, never, first-then, first-stops}
 use Rattle.unit.specs.declared.mux.Setting.{Setting}
 use Rattle.unit.specs.declared.mux.Mux.{Mux}
 use Rattle.unit.specs.Refusals.{WORDS, MOST-INSPECTIONS, BAD-MEMORY, TOO-MANY, SHORT-LIST, sizeRows, baseRows, areaRows, settingRows, unsound, Given, rowsOf, callRows, tableOf, refusal, ofSetup, ofUnit, ofInspection, ofSweep}
@@ -21,6 +24,27 @@ use Rattle.unit.specs.Refusals.{WORDS, MOST-INSPECTIONS, BAD-MEMORY, TOO
 pub given : (g : Given) (k : ℕ) → (refusal g ≡ k) ↔ Gives (tableOf g) k
 unfolding refusal
 given g k = first-gives (tableOf g) k
+
+-- ---- the numbers
+
+-- none is 5, whatever a call is given
+pub never-five : (g : Given) → refusal g ≡ 5 → ⊥
+unfolding refusal tableOf rowsOf settingRows sizeRows baseRows areaRows callRows
+never-five g = never (tableOf g) 5 (nowhere (g .setting))
+  where
+    nowhere : (s : Option Setting) → absent 5 (rowsOf s ++ callRows g) ≡ true
+    nowhere none = refl
+    nowhere (some s) = refl
+
+-- their order: setup's
+pub setup-order : (s : Setting) → map (λ (r : Row). r .number) (settingRows s) ≡ 1 ∷ 2 ∷ 3 ∷ 11 ∷ 4 ∷ []
+unfolding settingRows sizeRows baseRows areaRows
+setup-order s = refl
+
+-- and every other call's
+pub call-order : (g : Given) → map (λ (r : Row). r .number) (callRows g) ≡ 6 ∷ 7 ∷ 8 ∷ 9 ∷ 10 ∷ []
+unfolding callRows
+call-order g = refl
 
 -- ---- setup's number, part by part
 

@@ -1,5 +1,5 @@
 -- Refusal 0 is soundness (document 01, the table of refusals).
---   good-block .. good-end   each row of the setting, read in numbers
+--   good-block .. good-area  each row of the setting, read in numbers
 --   size-fits .. fits-iff    each part of setup's table gives 0 exactly where its part of Fits holds, and so does the whole
 --   sound-iff                refusal 0 of a record is exactly what Sound says
 --   port-iff .. sweep-iff    refusal 0 of each other kind of call
@@ -7,6 +7,7 @@
 --   fresh-sound              what setup makes is sound; the record of zeros is not
 --   by-block                 what holds at each block size holds of any
 --   sizes                    the sizes that pass, in numbers
+--   area-ends, fits-end      where the area ends: at or before word 32768
 --   Placed, block-inside     a block in the host's memory; a port's control block is one
 -- Not here: what fits and what is sound, in specs/Sound; what a refused call leaves, in Replies.
 -- Assumes nothing.
@@ -27,7 +28,7 @@ use Rattle.interrupt.specs.laws.Interrupt as Irq
 use Rattle.unit.specs.declared.mux.Setting.{Setting}
 use Rattle.unit.specs.declared.mux.Mux.{Mux}
 use Rattle.unit.specs.Record.{fresh, noMux, blockAt}
-use Rattle.unit.specs.Refusals.{WORDS, MOST-PORTS, MOST-INSPECTIONS, badBlock, badPorts, misaligned, tooHigh, crosses, overruns, sizeRows, baseRows, areaRows, settingRows, unsound, rowsOf, callRows, tableOf, refusal, ofSetup, ofUnit, ofPort, ofInspection, ofSweep}
+use Rattle.unit.specs.Refusals.{WORDS, MOST-PORTS, MOST-INSPECTIONS, badBlock, badPorts, misaligned, tooHigh, crosses, sizeRows, baseRows, areaRows, settingRows, unsound, rowsOf, callRows, tableOf, refusal, ofSetup, ofUnit, ofPort, ofInspection, ofSweep}
 use Rattle.unit.specs.Sound.{IsBlock, eight, sixteen, thirty-two, SizeFits, BaseFits, AreaFits, Fits, Sound}
 use Rattle.unit.specs.laws.Refusals.{setup-refusal}
 
@@ -77,11 +78,6 @@ pub good-area : (b n a : ℕ) → (crosses b n a ≡ false) ↔ (a / (128 * b) �
 unfolding crosses
 good-area b n a = (λ e. eqb-true _ _ (not-false _ e), λ h. ap not (eq-eqb _ _ h))
 
--- row 5 does not apply where the area ends inside the memory, and nowhere else
-pub good-end : (b n a : ℕ) → (overruns b n a ≡ false) ↔ (a + n * b ≤ 32768)
-unfolding overruns
-good-end b n a = (λ e. ltb-false 32768 _ e, λ h. le-ltb 32768 _ h)
-
 -- ---- the setting, by the parts of its table
 
 pub size-fits : (s : Setting) → (firstOf (sizeRows s) ≡ 0) ↔ SizeFits s
@@ -106,8 +102,8 @@ pub area-fits : (s : Setting) → (firstOf (areaRows s) ≡ 0) ↔ AreaFits s
 unfolding areaRows
 area-fits s =
     let z = first-zero (areaRows s) refl in (
-      λ e. let p = z .0 e in record { one = good-area _ _ _ .0 (p .0); inside = good-end _ _ _ .0 (p .1 .0) },
-      λ h. z .1 (good-area _ _ _ .1 (h .one), (good-end _ _ _ .1 (h .inside), tt)),
+      λ e. let p = z .0 e in record { one = good-area _ _ _ .0 (p .0) },
+      λ h. z .1 (good-area _ _ _ .1 (h .one), tt),
     )
 
 -- no row of setup's table applies exactly where the setting fits
@@ -224,6 +220,18 @@ sizes s f =
     let b = block-bounds (s .block) (f .block) in
     record { least = b .0; most = b .1; some = mul-pos (f .some-port) (omega arith); area = mul-le-mul (f .few-ports) (b .1) }
 
+-- an area that begins at or below word 32767 and crosses no multiple of 128b ends at or before word 32768
+abbrev Ends : ℕ → ℕ → ℕ → Type 0
+Ends n a b = a ≤ 32767 → a / (128 * b) ≡ (a + n * b - 1) / (128 * b) → a + n * b ≤ 32768
+
+-- 32768 is such a multiple, for each block size
+pub area-ends : (n a b : ℕ) → IsBlock b → Ends n a b
+area-ends n a = by-block (Ends n a) (λ l o. omega arith) (λ l o. omega arith) (λ l o. omega arith)
+
+-- the area of a setting that fits ends in the memory
+pub fits-end : (s : Setting) → Fits s → s .base + s .ports * s .block ≤ WORDS
+fits-end s f = area-ends (s .ports) (s .base) (s .block) (f .size .block) (f .base .low) (f .area .one)
+
 -- the host's memory with a whole block at the word a
 pub record Placed (m : List ℕ) (a : ℕ) : Type 0 where
   pub words : length m ≡ WORDS
@@ -233,7 +241,7 @@ pub record Placed (m : List ℕ) (a : ℕ) : Type 0 where
 pub block-inside : (s : Setting) (p : ℕ) → Fits s → p < s .ports → blockAt s p + 8 ≤ 32768
 unfolding blockAt
 block-inside s p f h =
-    omega (arith, mul-le-mul-right (s .block) h, f .area .inside, block-bounds (s .block) (f .size .block))
+    omega (arith, mul-le-mul-right (s .block) h, fits-end s f, block-bounds (s .block) (f .size .block))
 
 -- a port number that is not refused is a place of the record's array
 pub port-below : (u : Mux) (p : ℕ) → refusal (ofPort u p) ≡ 0 → p < 128

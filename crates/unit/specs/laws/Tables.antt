@@ -3,7 +3,7 @@
 --   same-setup                       rows that give a setting the number that it has answer its setup as it is answered
 --   Alike                            rows that let the same settings pass as today's
 --   same-sound, same-calls           such rows refuse the same records, and every call that is no setup by the same numbers
--- Not here: rows as they were, in Base.
+-- Not here: rows as they were, in Area and Base.
 -- Assumes nothing.
 use mathlib.Core.Path.{_≡_, refl, ap}
 use mathlib.Core.Bool.{Bool, not, _||_}

@@ -24,7 +24,7 @@ fits =
     record {
       size = record { block = eight refl; some-port = omega arith; few-ports = omega arith };
       base = record { aligned = refl; low = omega arith };
-      area = record { one = refl; inside = omega arith };
+      area = record { one = refl };
     }
 
 -- every definition that the session computes with: to unfold this is to unfold them all

@@ -1,4 +1,4 @@
--- `unit::refusal::area_code` meets its contract, row by row.
+-- `unit::refusal::area_code` meets its contract: its one row.
 use borrow.Author.Needs.{needs}
 use Rattle.unit.proofs.refusal.area_code.Statement.{statement}
 use Rattle.ground.specs.Choose.{firstOf}
@@ -14,10 +14,5 @@ returns-2 : tie.Need-returns-2
 unfolding areaRows firstOf
 returns-2 c = search cases
 
-returns-3 : tie.Need-returns-3
-unfolding areaRows firstOf
-returns-3 c = search cases
-
 pub area-code-spec : {M : Type 1} → statement M
-area-code-spec =
-    tie.close (tie.spec (λ c κs. search needs) returns (λ c κs. search needs) returns-2 returns-3)
+area-code-spec = tie.close (tie.spec (λ c κs. search needs) returns returns-2)
