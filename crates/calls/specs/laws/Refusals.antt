@@ -2,6 +2,7 @@
 --   Refuses            an outcome that has the number k, and where k is a refusal is the world and the list as they were
 --   performed-refuses  of one thing asked of the unit that stands
 --   step-refuses       of every call: a refused setup too keeps the record that stands
+--   step-never-five    no call answers 5 (document 02, K10)
 -- Not here: which number it is, in unit, laws/Refusals; the same through the door, in door, laws/Door.
 -- Assumes nothing.
 use mathlib.Core.Path.{_≡_, refl, sym, _∙_, ap}
@@ -18,6 +19,7 @@ use Rattle.unit.specs.Record.{fresh, noMux}
 use Rattle.unit.specs.Reply.{refused, accepted, World, Looked, looked, Outcome, outcome}
 use Rattle.unit.specs.Refusals.{refusal, ofSetup, ofInspection, ofSweep}
 use Rattle.unit.specs.Setup.{setup}
+use Rattle.unit.specs.laws.Refusals.{never-five}
 use Rattle.unit.specs.laws.Replies.{Answered, guarded-refused, guarded-answers}
 use Rattle.lines.specs.Lines.{line}
 use Rattle.processor.specs.Processor.{order}
@@ -88,3 +90,7 @@ by-what w xs s (Sweep n) = sweeps (w .mux) (w .memory) n xs
 -- every call
 pub step-refuses : (w : World) (xs : List ℕ) (c : Call) → Refuses (refusal (givenOf w xs (c .setting) (c .what))) (w .mux) (w .memory) xs (step w xs c)
 step-refuses w xs c = by-what w xs (c .setting) (c .what)
+
+-- no call answers 5, whatever the record, the memory, the list and the arguments are
+pub step-never-five : (w : World) (xs : List ℕ) (c : Call) → step w xs c .reply .code ≡ 5 → ⊥
+step-never-five w xs c e = never-five (givenOf w xs (c .setting) (c .what)) (sym (step-refuses w xs c .number) ∙ e)

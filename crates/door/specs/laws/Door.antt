@@ -1,12 +1,13 @@
 -- Laws of the door (document 01, the table of refusals, and what a proof here has to nail).
 --   call-number            what is said through the door has the table's number
+--   call-never-five        which is never 5 (document 02, K10)
 --   AsItWas, call-refused  a refusal leaves the lent record, the memory and the list as they were, and no further result
 --   Same, call-one         any two outcomes that the door's contract allows are equal
 --   made-run               after a list of calls made through the door the record and the memory are `run`'s
 --   made-split             and after each first part of it
 -- Not here: the case analysis of the calls, in laws/Refusals and laws/Outcomes of the crate calls.
 -- Assumes nothing.
-use mathlib.Core.Path.{_≡_, refl, _∙_, ap}
+use mathlib.Core.Path.{_≡_, refl, sym, _∙_, ap}
 use mathlib.Core.List.{List, [], _∷_, _++_}
 use Prim.Native.Nat.{ℕ}
 use Rattle.ground.specs.Machine
@@ -18,7 +19,7 @@ use Rattle.unit.specs.Refusals.{refusal}
 use Rattle.calls.specs.declared.call.Call.{Call}
 use Rattle.calls.specs.Calls.{givenOf}
 use Rattle.calls.specs.Events.{Event, calls, hostWrites, happens, run}
-use Rattle.calls.specs.laws.Refusals.{step-refuses}
+use Rattle.calls.specs.laws.Refusals.{step-refuses, step-never-five}
 use Rattle.calls.specs.laws.Outcomes.{one-outcome}
 use Rattle.door.specs.Door.{Meets, Made, ready, called, written}
 
@@ -36,6 +37,10 @@ module _ (u v : Mux) (m n xs ys : List ℕ) (c : Call) (r : Reply) (e : Meets (w
   -- the number is the table's
   pub call-number : r .code ≡ refusal (givenOf (world u m) xs (c .setting) (c .what))
   call-number = ap (λ (o : Outcome). o .reply .code) e ∙ step-refuses (world u m) xs c .number
+
+  -- and never 5
+  pub call-never-five : r .code ≡ 5 → ⊥
+  call-never-five h = step-never-five (world u m) xs c (sym (ap (λ (o : Outcome). o .reply .code) e) ∙ h)
 
   -- a refusal changes nothing
   pub call-refused : (r .code ≡ 0 → ⊥) → AsItWas u v m n xs ys r
