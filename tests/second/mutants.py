@@ -25,6 +25,11 @@ ROWS = {int(line.split(':')[0]): line for line in SOURCE.splitlines(keepends=Tru
 NOT_3 = "    11: lambda b, ports, base: b and base % (8 * b) == 0 and base > 32767,\n"
 NOT_2_3 = NOT_3.replace("b and", "b and 0 < ports <= 128 and")
 
+# Document 01's row 5, which K10 takes out; the same one word too strict; the start of row 4, to put a further fault into.
+ROW_5 = "    5: lambda b, ports, base: base + ports * b > 32768,\n"
+STRICT_5 = ROW_5.replace(">", ">=")
+ROW_4 = "    4: lambda b, ports, base: "
+
 # The rule of a buffer's end (02, K2), and where input and output ask it.
 ENDS, INPUT_ENDS, OUTPUT_ENDS = "return pointer + 1 >= end", "self.ends(ibp, lib)", "self.ends(obp, lob)"
 
@@ -91,7 +96,6 @@ MUTANTS = [
     ('11 asked before 1, after 2 and 3',
      ROWS[1] + ROWS[2] + ROWS[3] + ROWS[11], NOT_2_3 + ROWS[1] + ROWS[2] + ROWS[3]),
     ('11 asked after 4', ROWS[11] + ROWS[4], ROWS[4] + ROWS[11]),
-    ('11 asked after 5', ROWS[11] + ROWS[4] + ROWS[5], ROWS[4] + ROWS[5] + ROWS[11]),
     ('3 for both faults of a base', "base % (8 * b) != 0,", "base % (8 * b) != 0 or base > 32767,"),
     ('11 for both faults of a base', ROWS[3] + ROWS[11],
      "    11: lambda b, ports, base: base % (8 * b) != 0 or base > 32767,\n    3: lambda b, ports, base: False,\n"),
@@ -101,13 +105,14 @@ MUTANTS = [
     ('11 for a base taken with a sign', "base: base > 32767", "base: 32767 < base < 2147483648"),
     ('11 only in blocks of 8', "base: base > 32767", "base: base > 32767 and b == 8"),
     ('11 not in blocks of 32', "base: base > 32767", "base: base > 32767 and b != 32"),
-    # Without row 11 alone a high base is still unsound, by row 5: so the number is forgotten and not the row.
     ('soundness forgets row 11',
      "        if code:\n            self.hit(f'unsound: setup",
      "        if code and code != 11:\n            self.hit(f'unsound: setup"),
     ('soundness forgets row 11 far from the edge',
      "        if code:\n            self.hit(f'unsound: setup",
      "        if code and not (code == 11 and r.base >= 65536):\n            self.hit(f'unsound: setup"),
+    ('soundness cuts the base to 15 bits',
+     "self.setup_refusal(r.block, r.ports, r.base)", "self.setup_refusal(r.block, r.ports, r.base % 32768)"),
     ('area may cross', "(base + ports * b - 1) // (128 * b)", "base // (128 * b)"),
     ('area may not reach its end', "(base + ports * b - 1) // (128 * b)",
      "(base + ports * b) // (128 * b)"),
@@ -138,6 +143,54 @@ MUTANTS = [
      "        code = self.record.runs and self.refusal('sweep', memory=True, inspections=n)\n"),
     ('refuses everything', "        code = self.table(memory, port, inspections)\n",
      "        code = 6\n"),
+
+    # The end of the memory (02, K10).
+    ('11 left out', ROWS[11], ""),
+    ('4 for a base above 32767', ROWS[11] + ROW_4, ROW_4 + "base > 32767 or "),
+    ('11 by the end of the area', "base: base > 32767", "base: base + ports * b > 32768"),
+    ('11 by the end of the area, one word too strict', "base: base > 32767", "base: base + ports * b > 32767"),
+    ('5 asked, one word too strict', ROWS[4], ROWS[4] + STRICT_5),
+    *[(f'5 asked, one word too strict, {where}', ROWS[4], ROWS[4] + STRICT_5.replace("base +", f"{where} and base +"))
+      for where in ("b == 8", "b == 16", "b == 32", "ports == 8", "8 < ports < 128", "ports == 128")],
+    ('5 asked before 4', ROWS[4], ROW_5 + ROWS[4]),
+    *[(f'5 asked before 4, b {b}', ROWS[4], ROW_5.replace("base +", f"b == {b} and base +") + ROWS[4])
+      for b in (8, 16, 32)],
+    ('5 asked before 4, one port past the end alone', ROWS[4],
+     ROW_5.replace("ports * b > 32768", "ports * b == 32768 + b") + ROWS[4]),
+    ('5 asked before 11', ROWS[11], ROW_5 + ROWS[11]),
+    ('5 asked before 3', ROWS[3], ROW_5 + ROWS[3]),
+    ('5 asked before 2', ROWS[2], ROW_5 + ROWS[2]),
+    ('5 asked before 1', ROWS[1], ROW_5 + ROWS[1]),
+    ('5 asked after 4, 11 left out', ROWS[11] + ROWS[4], ROWS[4] + ROW_5),
+    ('11 given as 5', "    11: lambda", "    5: lambda"),
+    ('4 given as 5', ROWS[4], ROWS[4].replace("4:", "5:") + ROWS[4]),
+    ('area that ends with the memory refused with 4', ROW_4, ROW_4 + "base + ports * b == 32768 or "),
+    *[(f'area that ends with the memory refused with 4, b {b}', ROW_4,
+       ROW_4 + f"(b == {b} and base + ports * b == 32768) or ") for b in (8, 16, 32)],
+    ('area that ends with the memory refused with 11', "base: base > 32767",
+     "base: base > 32767 or base + ports * b == 32768"),
+    ('area may end past the memory', ROW_4, ROW_4 + "base + ports * b <= 32768 and "),
+    *[(f'area may end past the memory, b {b}', ROW_4, ROW_4 + f"not (b == {b} and base + ports * b > 32768) and ")
+      for b in (8, 16, 32)],
+    ('area may end one port past the memory', ROW_4, ROW_4 + "base + ports * b != 32768 + b and "),
+    ('soundness refuses an area that ends with the memory',
+     "if r.pos >= r.ports:", "if r.pos >= r.ports or r.base + r.ports * r.block >= WORDS:"),
+    *[(f'soundness refuses an area that ends with the memory, b {b}', "if r.pos >= r.ports:",
+       f"if r.pos >= r.ports or (r.block == {b} and r.base + r.ports * {b} >= WORDS):")
+      for b in (8, 16, 32)],
+    ('soundness forgets row 4 past the memory',
+     "        if code:\n            self.hit(f'unsound: setup",
+     "        if code and (code != 4 or r.base + r.ports * r.block <= WORDS):\n            self.hit(f'unsound: setup"),
+    ('blocks of 24 accepted', "b not in BLOCKS,", "b not in BLOCKS + (24,),"),
+    *[(f'last block of memory not served, b {b}', "        if port.held:\n            self.hit('turn: input')",
+       f"        if (r.block, self.block_of(p)) == ({b}, WORDS - {b}):\n            return Answer(IDLE, p, 0, 0, 0)\n"
+       "        if port.held:\n            self.hit('turn: input')") for b in (8, 16, 32)],
+    ('last block of memory one word early', "return self.record.base + p * self.record.block",
+     "return min(self.record.base + p * self.record.block, WORDS - 1 - self.record.block)"),
+    ('last block of memory at word 0', "return self.record.base + p * self.record.block",
+     "return (self.record.base + p * self.record.block) % (WORDS - self.record.block)"),
+    ('LIB in the last words of memory read as 0', INPUT_ENDS, "self.ends(ibp, lib if block + 8 < WORDS else 0)"),
+    ('LOB in the last word of memory read as 0', OUTPUT_ENDS, "self.ends(obp, lob if block + 8 < WORDS else 0)"),
 
     # Lines and processor.
     ('character not cut', "kept = (0,) * (8 - length) + BYTE_BITS[byte][8 - length:]",

@@ -1,6 +1,6 @@
 """A second EDS-8, for comparison with the proved one.
 
-Written from document 01, requests K1 and K2 of document 02 (K4 asks nothing of it), the 1974 manual
+Written from document 01, requests K1, K2 and K10 of document 02 (K4 asks nothing of it), the 1974 manual
 (001) and the readings of docs/DECISIONS.md, without sight of the definitions or the code. It takes
 another road than the proved program: a word is a list of sixteen 0s and 1s indexed by the
 manual's bit numbers, a port is an immutable object, and memory is a bytearray
@@ -74,7 +74,7 @@ class Memory:
 
 BLOCKS = (8, 16, 32)            # the sizes of a control block, in words
 
-# The rows of document 01's table that setup asks, in their order (02, K1: 11 right after 3):
+# The rows of document 01's table that setup asks, in their order (02, K1: 11 right after 3; K10: no row 5):
 # each number, and when it is given if no row above it was. A sound record (6) passes the same rows.
 SETUP_ROWS = {
     1: lambda b, ports, base: b not in BLOCKS,
@@ -82,7 +82,6 @@ SETUP_ROWS = {
     3: lambda b, ports, base: base % (8 * b) != 0,
     11: lambda b, ports, base: base > 32767,
     4: lambda b, ports, base: base // (128 * b) != (base + ports * b - 1) // (128 * b),
-    5: lambda b, ports, base: base + ports * b > 32768,
 }
 
 SETUP_CALLS = {'setup': tuple(SETUP_ROWS)}
@@ -91,11 +90,6 @@ LINE_CALLS = ('arrival', 'transmitted', 'device_status')
 REFUSALS = {**SETUP_CALLS, **{call: (6,) for call in PLAIN_CALLS},
             **{call: (6, 8) for call in LINE_CALLS},
             'inspect': (6, 7), 'sweep': (6, 7, 9, 10)}
-
-# Refusal 5 can never be given: 32768 is a multiple of 128b for each b, so an
-# area that starts below it (else 11) and passes it has crossed such a multiple
-# and was refused with 4.
-UNREACHABLE = {'setup refused 5', 'unsound: setup gives 5'}
 
 # How an old pointer may stand to the end that its automatic buffer reaches (02, K2), for input and output each.
 ENDS = ('end reached exactly', 'last place of memory: 65534, end 65535',
@@ -109,6 +103,9 @@ BRANCHES = (
     + [f'unsound: setup gives {code}' for code in SETUP_ROWS]
     + [f'setup refused 11, b {b}: {where}' for b in BLOCKS for where in ('at 32768', 'far from it')]
     + [f'setup refused {code} before 11' for code in (1, 2, 3)]
+    + [f'setup accepted, b {b}: area ends at 32768' for b in BLOCKS]
+    + [f'setup refused 4, b {b}: area would end past 32768' for b in BLOCKS]
+    + [f'{service}: in the last block of memory, b {b}' for service in ('input', 'output') for b in BLOCKS]
     + ['setup refused 11 before 4', 'unsound: position', 'sweep refused 9 before 10',
        'arrival at a free port', 'arrival replaces a character', 'arrival replaces a marked one',
        'arrival is cut to 5', 'arrival is cut to 6', 'arrival is cut to 7', 'arrival of 8',
@@ -211,6 +208,7 @@ class Mux2:
         self.hit(f'setup refused {code}' if code else 'setup accepted')
         if base > 32767:
             self.note_high_base(code, b, ports, base)
+        self.note_area(code, b, base + ports * b)
         made = Record()
         if code == 0:
             made.block, made.ports, made.base = b, ports, base
@@ -228,6 +226,13 @@ class Mux2:
                 self.hit(f'setup refused 11, b {b}: far from it')
             if SETUP_ROWS[4](b, ports, base):
                 self.hit('setup refused 11 before 4')
+
+    def note_area(self, code, b, end):
+        """Counts areas that end with the memory (02, K10) and those that would end past it; changes nothing."""
+        if code == 0 and end == WORDS:
+            self.hit(f'setup accepted, b {b}: area ends at 32768')
+        elif code == 4 and end > WORDS:
+            self.hit(f'setup refused 4, b {b}: area would end past 32768')
 
     # What the lines do.
 
@@ -367,6 +372,13 @@ class Mux2:
     def block_of(self, p):
         return self.record.base + p * self.record.block
 
+    def note_service(self, service, p):
+        """Counts a service, and whether the port's block is the last of the memory; changes nothing."""
+        self.services += 1
+        b = self.record.block
+        if self.block_of(p) + b == WORDS:
+            self.hit(f'{service}: in the last block of memory, b {b}')
+
     def step(self, pointer):
         """The next byte pointer, for input and output alike."""
         if pointer == 65535:
@@ -412,7 +424,7 @@ class Mux2:
         return NONE
 
     def input(self, p):
-        self.services += 1
+        self.note_service('input', p)
         memory, block, port = self.memory, self.block_of(p), self.record.port[p]
         icw, ibp, lib = (memory.word(block + place) for place in (0, 4, 6))
         icw = bits_of(icw)
@@ -494,7 +506,7 @@ class Mux2:
             self.hit('input 6: buffer on LIB')
 
     def output(self, p):
-        self.services += 1
+        self.note_service('output', p)
         memory, block, port = self.memory, self.block_of(p), self.record.port[p]
         ocw, obp, lob = (memory.word(block + place) for place in (1, 5, 7))
         ocw = bits_of(ocw)

@@ -469,12 +469,12 @@ def bad_bases(author, b):
             author.do(drive.SETUP, wrong, 1, base + 1, 0)
 
 
-def high_record(author, base):
-    """A unit with work waiting whose base is poked too high: every call is refused with 6 and changes nothing."""
-    good = author.unit.base
+def unsound_record(author, field, value):
+    """A unit with work waiting whose ports or base are poked too high: every call is refused with 6 and changes nothing."""
+    good = getattr(author.unit, drive.FIELDS[field])
     author.do(drive.ARRIVAL, 0, 65, 0, 0)
     author.do(drive.TICK)
-    author.do(drive.POKE, 2, base)
+    author.do(drive.POKE, field, value)
     for op in (drive.DIA, drive.START, drive.DIAS, drive.TICK, drive.IOPLS, drive.DOB, drive.DOC, drive.RESET):
         author.do(op)
     author.do(drive.ARRIVAL, 0, 66, 0, 0)
@@ -482,13 +482,55 @@ def high_record(author, base):
     author.do(drive.DEVICE_STATUS, 0, 1)
     author.inspect()
     author.do(drive.SWEEP, 1, author.look())
-    author.do(drive.POKE, 2, good)
+    author.do(drive.POKE, field, good)
     author.do(drive.DIAS)
     author.inspect()
 
 
+def last_turn(author):
+    """The turns before the last port's, by a sweep, and then its own."""
+    before = author.unit.ports - 1 - author.unit.pos
+    author.do(drive.SWEEP, before, author.look(before))
+    author.inspect()
+
+
+def serve_last_port(author):
+    """The last port is served: control bits, two characters, two bytes, done with the second; then a byte in a sweep."""
+    p = author.unit.ports - 1
+    author.write(author.block(p) + 1, 0o40060)          # port control: characters of eight bits
+    last_turn(author)
+    set_buffer(author, (0, 4, 6), 0o40000, 2000, 2002, p)
+    for code in (65, 66):
+        author.do(drive.ARRIVAL, p, code, 0, 0)
+        last_turn(author)
+    set_buffer(author, (1, 5, 7), 0o20000, 2000, 2002, p)
+    for _ in range(2):
+        last_turn(author)
+        author.do(drive.TRANSMITTED, p)
+    author.write(author.block(p) + 1, 0o60103)          # a single byte
+    author.do(drive.SWEEP, p + 1, author.look(p))
+    author.do(drive.DIAS)
+
+
+def last_areas(author, b):
+    """Every area that ends with the memory (02, K10), and settings beside it; its last port is served."""
+    for ports in range(8, 129, 8):
+        base = 32768 - ports * b
+        for other in (1, ports - 1, ports + 1, ports + 8, 128, 129):    # more ports would end past the memory
+            author.do(drive.SETUP, b, other, base, 0)
+        for other in (base - 8 * b, base + b, base + 8 * b):
+            author.do(drive.SETUP, b, ports, other, 0)
+        author.do(drive.SETUP, b, ports, base, 0)
+        author.do(drive.IOPLS)
+        author.do(drive.DOC)
+        serve_last_port(author)
+        unsound_record(author, 1, ports + 1)
+        unsound_record(author, 2, base + 8 * b)
+
+
 def bases_session():
-    """The session of refusal 11: a base above 32767 by itself, beside each other fault, and in a poked record."""
+    """The session of the last bases: one above 32767 by itself, beside each other fault and in a poked record; then every
+    area that ends with the memory."""
     author = Author(SEED, 0)
     author.kind = 'bases'
     for b in mux2.BLOCKS:
@@ -498,11 +540,16 @@ def bases_session():
         bad_bases(author, b)
         author.do(drive.PLACES, 1, b)
         for base in high_bases(b):
-            high_record(author, base)
+            unsound_record(author, 2, base)
         author.do(drive.SETUP, b, 1, 32768, 1)          # the record of zeros becomes the unit
         author.do(drive.DIA)
         author.do(drive.SETUP, b, 8, 32768 - 8 * b, 0)
         author.do(drive.SETUP, b, 9, 32768 - 8 * b, 0)
+    author.do(drive.PLACES, 128, 65535)
+    for b in mux2.BLOCKS:
+        last_areas(author, b)
+    for b in (7, 12, 24, 48):                           # 1 alone keeps these areas from ending past the memory
+        author.do(drive.SETUP, b, 128, 32767 // (128 * b) * 128 * b, 0)
     reached = author.mux.reached
     author.do(drive.END)
     return author, reached
@@ -558,10 +605,10 @@ def host_byte(author, pointer, byte):
     author.write(pointer // 2, left * 256 + byte if pointer % 2 else byte * 256 + right)
 
 
-def set_buffer(author, words, control, pointer, end):
-    """The host writes a control word, its pointer and its end; `words` are their places in the block."""
+def set_buffer(author, words, control, pointer, end, p=0):
+    """The host writes a control word of port p, its pointer and its end; `words` are their places in the block."""
     for place, word in zip(words, (control, pointer, end)):
-        author.write(author.block(0) + place, word)
+        author.write(author.block(p) + place, word)
 
 
 def receive(author, code):

@@ -50,7 +50,6 @@ ABOVE = ', from above 32767'
 WAYS = ('base kept', LAST, LAST + ABOVE, FURTHER, FURTHER + ABOVE)
 SIZES = ('block size kept', 'block size becomes 32', 'ports kept', 'ports become 1', 'ports become 128')
 KINDS = ('accepted', 'please', *(f'refused, {code}' for code in mux2.SETUP_ROWS), *SIZES, *WAYS)
-NEVER_ASKED = 'refused, 5'                  # numbers 11 and 4 come first, so a text need not reach it
 
 
 # What the program must say.
@@ -171,8 +170,7 @@ def check(text, got, told, some=False):
     if difference:
         return False, difference
     said = [f'{count:9}  {kind}' for kind, count in counts.items() if count or not some]
-    missing = [f'never reached: {kind}' for kind, count in counts.items()
-               if count == 0 and kind != NEVER_ASKED and not some]
+    missing = [f'never reached: {kind}' for kind, count in counts.items() if count == 0 and not some]
     agreed = f'{len(answered_lines(text))} lines typed, {got.count(chr(10))} lines printed, all agree'
     return not missing, '\n'.join(said + [agreed] + missing)
 
