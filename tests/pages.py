@@ -19,8 +19,7 @@ import settings2  # noqa: E402
 ENDINGS = {'.rt', '.antt', '.py', '.sh'}
 # Crates whose definitions speak of the programs and not of the multiplexer.
 PROGRAMS = {'driver', 'compared', 'watch', 'settings'}
-# The number of setup that no setting is known to give (D32), and an example of any other: what was typed, what to type instead.
-NEVER_GIVEN = 5
+# An example of a number: what was typed, what to type instead.
 EXAMPLE = re.compile(r' +(\d+ \d+ \d+) +type (\d+ \d+ \d+): (.*)')
 PAGES = ['README.md', 'docs/CLAIMS.md', 'docs/DECISIONS.md', 'docs/CHANGING.md', 'docs/CARETAKER.md']
 
@@ -106,10 +105,9 @@ def example_right(number, line):
 
 
 def examples_told():
-    """Examples of docs/CARETAKER.md that the second program answers otherwise; the number that no setting is known to give has none."""
+    """Examples of docs/CARETAKER.md that the second program answers otherwise."""
     page = read(ROOT / 'docs/CARETAKER.md')
-    lost = [line for number, _, lines in entries() for line in lines if number != NEVER_GIVEN and not example_right(number, line)]
-    lost += [line for number, _, lines in entries() for line in lines if number == NEVER_GIVEN and EXAMPLE.fullmatch(line)]
+    lost = [line for number, _, lines in entries() for line in lines if not example_right(number, line)]
     shown = re.findall(r'^ {4}(\d+ \d+ \d+)\n {4}refused, (\d+): (.*)\n {4}type instead: (.*)$', page, re.M)
     lost += [typed for typed, number, sentence, instead in shown if not answers(typed, number, instead) or sentences().get(int(number)) != sentence]
     works = re.findall(r'(\d+) (\d+) (\d+)', ''.join(re.findall(r'^Settings that work: (.*)$', page, re.M)))
