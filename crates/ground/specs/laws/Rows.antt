@@ -162,15 +162,24 @@ first-then rs ss n e = go rs (first-zero rs n .0 e)
     go [] p = refl
     go (q ∷ qs) p = rw (p .0) (go qs (p .1))
 
--- where a row of the first applies, the first decides
-pub first-stops : (rs ss : List Row) → (firstOf rs ≡ 0 → ⊥) → firstOf (rs ++ ss) ≡ firstOf rs
+-- where the second gives 0 if the first does, the first decides
+first-decides : (rs ss : List Row) → (firstOf rs ≡ 0 → firstOf ss ≡ 0) → firstOf (rs ++ ss) ≡ firstOf rs
 unfolding firstOf pick
-first-stops [] ss h = absurd (h refl)
-first-stops (r ∷ rs) ss h = go (r .applies) refl (first-stops rs ss)
+first-decides [] ss h = h refl
+first-decides (r ∷ rs) ss h = go (r .applies) refl (first-decides rs ss)
   where
-    go : (t : Bool) → r .applies ≡ t → ((firstOf rs ≡ 0 → ⊥) → firstOf (rs ++ ss) ≡ firstOf rs) → pick (r .applies) (r .number) (firstOf (rs ++ ss)) ≡ pick (r .applies) (r .number) (firstOf rs)
+    go : (t : Bool) → r .applies ≡ t → ((firstOf rs ≡ 0 → firstOf ss ≡ 0) → firstOf (rs ++ ss) ≡ firstOf rs) → pick (r .applies) (r .number) (firstOf (rs ++ ss)) ≡ pick (r .applies) (r .number) (firstOf rs)
     go true a more = rw a
     go false a more = rw a (more (λ e. h (rw a e)))
+
+-- so it does where it does not give 0
+pub first-stops : (rs ss : List Row) → (firstOf rs ≡ 0 → ⊥) → firstOf (rs ++ ss) ≡ firstOf rs
+first-stops rs ss h = first-decides rs ss (λ e. absurd (h e))
+
+-- and a last row that does not apply where the others give 0 changes no number
+pub first-idle : (rs : List Row) (r : Row) → (firstOf rs ≡ 0 → r .applies ≡ false) → firstOf (rs ++ (r ∷ [])) ≡ firstOf rs
+unfolding firstOf
+first-idle rs r idle = first-decides rs (r ∷ []) (λ e. pick-false (r .applies) (r .number) 0 (idle e))
 
 -- the whole gives 0 exactly where both parts do
 pub first-both : (rs ss : List Row) → numbered rs ≡ true → (firstOf (rs ++ ss) ≡ 0) ↔ ((firstOf rs ≡ 0) × (firstOf ss ≡ 0))
@@ -179,13 +188,3 @@ first-both rs ss n = (λ e. go e (ℕ-discrete (firstOf rs) 0), λ h. first-then
     go : firstOf (rs ++ ss) ≡ 0 → Dec (firstOf rs ≡ 0) → (firstOf rs ≡ 0) × (firstOf ss ≡ 0)
     go e (yes z) = (z, sym (first-then rs ss n z) ∙ e)
     go e (no h) = absurd (h (sym (first-stops rs ss h) ∙ e))
-
--- a last row that does not apply where the rows before it give 0 changes no number
-pub first-idle : (rs : List Row) (r : Row) → (firstOf rs ≡ 0 → r .applies ≡ false) → firstOf (rs ++ (r ∷ [])) ≡ firstOf rs
-unfolding firstOf pick
-first-idle [] r idle = rw (idle refl)
-first-idle (q ∷ qs) r idle = go (q .applies) refl (first-idle qs r)
-  where
-    go : (t : Bool) → q .applies ≡ t → ((firstOf qs ≡ 0 → r .applies ≡ false) → firstOf (qs ++ (r ∷ [])) ≡ firstOf qs) → pick (q .applies) (q .number) (firstOf (qs ++ (r ∷ []))) ≡ pick (q .applies) (q .number) (firstOf qs)
-    go true a more = rw a
-    go false a more = rw a (more (λ e. idle (rw a e)))
