@@ -1,14 +1,18 @@
--- An array changed in place, one element after the other.
+-- An array changed in place or filled, one element after the other.
 --   mapTo       the first so many elements changed, the rest as they were
 --   map-one     one more element
 --   map-all     all of them: the map of the list
+--   tab-length, getD-tab   a list by its rule: how long it is, and its elements
+--   tabTo       the first so many elements by the rule, the rest as they were: tab-none, tab-one, tab-all as above
 -- Not here: lists in general, in the library (lib.Seq, lib.ListN).
 -- Assumes nothing.
-use mathlib.Core.Path.{_≡_, refl, ap}
-use mathlib.Core.List.{List, [], _∷_, map}
+use mathlib.Core.Path.{_≡_, _∙_, refl, ap}
+use mathlib.Core.List.{List, [], _∷_, _++_, map, append-nil}
 use Prim.Native.Nat.{ℕ, zero, suc, _<_}
 use native.Mathlib.Nat.{le-of-suc-le-suc, not-suc-le-zero}
-use lib.ListN.{length, getD, set}
+use lib.ListN.{length, getD, set, drop}
+use lib.Seq.{drop-length}
+use Rattle.ground.specs.Tab.{tab}
 
 module _ {A : Type 0} (f : A → A) where
   -- the first n elements changed by f
@@ -37,3 +41,32 @@ module _ {A : Type 0} (f : A → A) where
   map-length zero xs = refl
   map-length (suc n) [] = refl
   map-length (suc n) (x ∷ xs) = ap suc (map-length n xs)
+
+module _ {A : Type 0} where
+  pub tab-length : (n : ℕ) (f : ℕ → A) → length (tab n f) ≡ n
+  unfolding tab
+  tab-length zero f = refl
+  tab-length (suc n) f = ap suc (tab-length n (λ k. f (suc k)))
+
+  pub getD-tab : (n : ℕ) (f : ℕ → A) (k : ℕ) (d : A) → k < n → getD (tab n f) k d ≡ f k
+  unfolding tab
+  getD-tab zero f k d h = absurd (not-suc-le-zero h)
+  getD-tab (suc n) f zero d h = refl
+  getD-tab (suc n) f (suc k) d h = getD-tab n (λ j. f (suc j)) k d (le-of-suc-le-suc h)
+
+  -- the first n elements by the rule f, the rest as in xs
+  abbrev pub tabTo : ℕ → (ℕ → A) → List A → List A
+  tabTo n f xs = tab n f ++ drop n xs
+
+  pub tab-none : (f : ℕ → A) (xs : List A) → xs ≡ tabTo 0 f xs
+  unfolding tab
+  tab-none f xs = refl
+
+  pub tab-one : (n : ℕ) (f : ℕ → A) (xs : List A) → n < length xs → set (tabTo n f xs) n (f n) ≡ tabTo (suc n) f xs
+  unfolding tab
+  tab-one n f [] h = absurd (not-suc-le-zero h)
+  tab-one zero f (x ∷ xs) h = refl
+  tab-one (suc n) f (x ∷ xs) h = ap (λ (ys : List A). f 0 ∷ ys) (tab-one n (λ k. f (suc k)) xs (le-of-suc-le-suc h))
+
+  pub tab-all : (f : ℕ → A) (xs : List A) → tabTo (length xs) f xs ≡ tab (length xs) f
+  tab-all f xs = ap (λ (ys : List A). tab (length xs) f ++ ys) (drop-length xs) ∙ append-nil (tab (length xs) f)
