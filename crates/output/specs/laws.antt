@@ -2,8 +2,10 @@
 --   Kept    what a service may change in the memory, and that it changes nothing else
 --   Modes   the plan of each mode, by the mode's name
 --   Word    what the host reads of OCW after it was written
+--   Rules   the service by any rules for a buffer's end and a special code
 --   Ends    a buffer of automatic output ends
 pub mod Kept
 pub mod Modes
 pub mod Word
+pub mod Rules
 pub mod Ends

@@ -7,9 +7,10 @@
 --   Open, open-edges, Done     automatic mode with INDONE clear, and a buffer of bytes that are beside, but for its last; INDONE set
 --   serves, input-ends         so after max(1, LIB − IBP) services INDONE is set, whatever becomes of every other word meanwhile
 --   first-ends, from-top       a character is done where LIB is at most IBP + 1: so after 65535; where its byte then is
---   inputBy, by-the-rule, same-service   by the rule as it was: the same where IBP + 1 is below LIB or equal to it
+--   same-service               by the rule as it was: the same where IBP + 1 is below LIB or equal to it
 --   short ..                   IBP 2003 with LIB 2003: one service ends it, and by the rule as it was it ran on
--- Not here: services one after the other, and the count, in words, laws/Buffer; when the end is reached, in words, laws/Pointer.
+-- Not here: services one after the other, and the count, in words, laws/Buffer; when the end is reached, in words, laws/Pointer; the service by any
+-- rule for the end, in Rules.
 -- Assumes nothing.
 use mathlib.Core.Path.{_≡_, _∙_, ap, refl, sym}
 use mathlib.Core.Bool.{Bool, true, false, false≢true}
@@ -23,21 +24,20 @@ use Rattle.ground.specs.Choose.{pick, bit}
 use Rattle.ground.specs.Machine.{run}
 use Rattle.ground.specs.laws.Rows.{pick-true, pick-false, or-false}
 use Rattle.words.specs.Field.{get, put}
-use Rattle.words.specs.Codes.{atICW, atIBP, atLIB, INDONE, LEFT, storedByte, echoedByte}
+use Rattle.words.specs.Codes.{atICW, atIBP, atLIB, INDONE, LEFT, storedByte}
 use Rattle.words.specs.laws.Codes.{stored-fits}
-use Rattle.words.specs.Pointer.{atEnd}
 use Rattle.words.specs.laws.Pointer.{at-end-iff, goes-on, atEndWas, as-before}
 use Rattle.words.specs.laws.Buffer.{Buffer, room, Steps, Serves, Follow, left, ends}
 use Rattle.words.specs.Byte.{halfAt, byteAt, storeByte, wordIf, byteIf}
 use Rattle.words.specs.Special.{isSpecial}
 use Rattle.unit.specs.declared.mux.Port.{Port}
-use Rattle.unit.specs.Reply.{Serviced, serviced}
 use Rattle.unit.specs.laws.Sound.{Placed}
 use Rattle.input.specs.declared.plan.Plan.{Plan}
 use Rattle.input.specs.Input.{errorCode, ascii, donePlan, storedPlan, inputPlan, carried, inputService}
-use Rattle.input.specs.laws.Kept.{icwOf, lastOf, codeOf, nextOf, after, kept-word}
+use Rattle.input.specs.laws.Kept.{icwOf, lastOf, nextOf, after, kept-word}
 use Rattle.input.specs.laws.Automatic.{Filling, apart, busyOf, doneOf, reportedPlan, bufferedPlan, automatic, stored, raised-done}
 use Rattle.input.specs.laws.Glottal.{replaced}
+use Rattle.input.specs.laws.Rules.{inputBy, by-the-rules}
 
 -- ICW, IBP and LIB of the port whose block starts at the word a
 abbrev pub bufferOf : List ℕ → ℕ → Buffer
@@ -169,30 +169,10 @@ module _ (m : List ℕ) (a : ℕ) (q : Port) (filling : Filling (icwOf m a)) whe
 
 -- ---- the rule as it was
 
--- the service, by any rule for the end
-unfoldable pub inputBy : (ℕ → ℕ → Bool) → List ℕ → ℕ → Port → Serviced
-inputBy rule m a q =
-    let c = q .ch .byte in
-    let last = rule (bufferOf m a .pointer) (bufferOf m a .end) in
-    let plan = inputPlan (icwOf m a) (codeOf q) c last (isSpecial c) (q .empty) in
-    serviced
-    (record {
-      sent = plan .echo;
-      byte = pick (plan .echo) (echoedByte (ascii (icwOf m a)) c) 0;
-      raised = plan .raised;
-      control = q .control;
-      devcontrol = q .devcontrol;
-    })
-    (carried plan a (nextOf m a) m)
-
-pub by-the-rule : (m : List ℕ) (a : ℕ) (q : Port) → inputService m a q ≡ inputBy atEnd m a q
-unfolding inputService inputBy
-by-the-rule m a q = refl
-
 -- where IBP + 1 is below LIB or equal to it, it is the service by the rule before K2
-pub same-service : (m : List ℕ) (a : ℕ) (q : Port) → bufferOf m a .end < 65536 → bufferOf m a .pointer + 1 ≤ bufferOf m a .end → inputService m a q ≡ inputBy atEndWas m a q
+pub same-service : (m : List ℕ) (a : ℕ) (q : Port) → bufferOf m a .end < 65536 → bufferOf m a .pointer + 1 ≤ bufferOf m a .end → inputService m a q ≡ inputBy atEndWas isSpecial m a q
 unfolding inputBy
-same-service m a q word h = by-the-rule m a q ∙ rw (as-before (bufferOf m a .pointer) (bufferOf m a .end) word h)
+same-service m a q word h = by-the-rules m a q ∙ rw (as-before (bufferOf m a .pointer) (bufferOf m a .end) word h)
 
 -- IBP 2003 with LIB 2003 in a block at word 64: a character of code 255 with no error, in automatic mode
 abbrev pub short : Visit 64
@@ -219,6 +199,6 @@ unfolding run
 short-ends = input-ends 64 (found 64 short) (short ∷ []) short-open (refl, tt) (lit≤ tt)
 
 -- by the rule as it was INDONE was clear after it, and IBP past LIB
-pub short-ran-on : bufferOf (inputBy atEndWas (short .memory) 64 (short .port) .memory) 64 ≡ record { control = 0o40000; pointer = 2004; end = 2003 }
+pub short-ran-on : bufferOf (inputBy atEndWas isSpecial (short .memory) 64 (short .port) .memory) 64 ≡ record { control = 0o40000; pointer = 2004; end = 2003 }
 unfolding inputBy atEndWas inputPlan carried errorCode ascii storedPlan get put storedByte wordIf byteIf storeByte halfAt pick bit isSpecial
 short-ran-on = refl

@@ -1,19 +1,19 @@
 -- A buffer of automatic output ends (document 02, K2).
 --   bufferOf, Sending          OCW, OBP and LOB of a port; automatic mode with OUTDONE clear
---   ocwOf .. fetchedOf         OCW, the pointer of the next byte, whether the buffer ends with it, and the byte
+--   lastOf                     whether the buffer ends with its next byte
 --   ocw-after, obp-after       OCW and OBP after a service
 --   next-below, steps          a byte that raises no interrupt: OBP one on with no jump to 0, and LOB − OBP one less
 --   Visit, found, leaves       an output service, with the memory and the port that it finds; the three words that it finds and leaves
 --   Open, open-edge, Done      automatic mode with OUTDONE clear, LOB a word; OUTDONE set
 --   serves, output-ends        so after max(1, LOB − OBP) output services OUTDONE is set, whatever becomes of every other word meanwhile
 --   first-ends, from-top       a byte is done where LOB is at most OBP + 1: so after 65535, where it is the left half of word 0
---   outputBy, by-the-rule, same-service   by the rule as it was: the same where OBP + 1 is below LOB or equal to it
+--   same-service               by the rule as it was: the same where OBP + 1 is below LOB or equal to it
 --   short ..                   OBP 2003 with LOB 2003: one service ends it, and by the rule as it was it ran on
--- Not here: services one after the other, and the count, in words, laws/Buffer; when the end is reached, in words, laws/Pointer; an input of
+-- Not here: services one after the other, and the count, in words, laws/Buffer; when the end is reached, in words, laws/Pointer; the service by any rule for the end, in Rules; an input of
 -- the same port that lies on LOB, in calls, Examples.
 -- Assumes nothing.
 use mathlib.Core.Path.{_≡_, _∙_, ap, refl, sym}
-use mathlib.Core.Bool.{Bool, true, false, not, _&&_, _||_}
+use mathlib.Core.Bool.{Bool, true, false, _&&_, _||_}
 use mathlib.Core.List.{List, [], _∷_}
 use mathlib.Core.Logic.{_⊎_, inl, inr}
 use Prim.Native.Nat.{ℕ, _+_, _<_, _≤_}
@@ -26,7 +26,7 @@ use Rattle.ground.specs.Machine.{run}
 use Rattle.ground.specs.laws.Rows.{or-false}
 use Rattle.words.specs.Field.{get, put}
 use Rattle.words.specs.Codes.{atOCW, atOBP, atLOB, OUTDONE, OUTMO, outAuto, SPECIAL-REQUEST, LEFT}
-use Rattle.words.specs.Pointer.{stepPtr, atEnd}
+use Rattle.words.specs.Pointer.{atEnd}
 use Rattle.words.specs.laws.Pointer.{at-end-iff, goes-on, atEndWas, as-before}
 use Rattle.words.specs.laws.Buffer.{Buffer, room, Steps, Serves, Follow, left, ends}
 use Rattle.words.specs.Byte.{halfAt, byteAt, wordIf}
@@ -34,12 +34,12 @@ use Rattle.words.specs.laws.Byte.{length-wordIf, other-word, read-word}
 use Rattle.words.specs.Special.{isSpecial}
 use Rattle.unit.specs.declared.mux.Port.{Port}
 use Rattle.unit.specs.Record.{freshPort}
-use Rattle.unit.specs.Reply.{Serviced, serviced}
 use Rattle.unit.specs.laws.Sound.{Placed}
 use Rattle.output.specs.declared.plan.Plan.{Plan}
 use Rattle.output.specs.Output.{outDone, isAuto, autoPlan, outputPlan, differs, statusBits, becomesChanged, writtenOCW, outputService}
 use Rattle.output.specs.laws.Kept.{after, stepped, kept-word}
 use Rattle.output.specs.laws.Modes.{planned-auto}
+use Rattle.output.specs.laws.Rules.{ocwOf, nextOf, fetchedOf, outputBy, by-the-rules}
 use Rattle.output.specs.laws.Word.{written-done, written-set, written-mode}
 
 -- OCW, OBP and LOB of the port whose block starts at the word a
@@ -53,18 +53,9 @@ pub record Sending (ocw : ℕ) : Type 0 where
 
 -- ---- one service
 
--- OCW of the port, the pointer of the buffer's next byte, whether the buffer ends with it, and the byte: the pointer is written before it is fetched
-abbrev pub ocwOf : List ℕ → ℕ → ℕ
-ocwOf m a = getD m (a + atOCW) 0
-
-abbrev pub nextOf : List ℕ → ℕ → ℕ
-nextOf m a = stepPtr (bufferOf m a .pointer)
-
+-- whether the buffer ends with its next byte
 abbrev pub lastOf : List ℕ → ℕ → Bool
 lastOf m a = atEnd (bufferOf m a .pointer) (bufferOf m a .end)
-
-abbrev pub fetchedOf : List ℕ → ℕ → ℕ
-fetchedOf m a = byteAt (stepped m a) (nextOf m a)
 
 -- OCW after any service
 pub ocw-after : (m : List ℕ) (a : ℕ) (q : Port) → Placed m a → getD (after m a q) (a + atOCW) 0 ≡ writtenOCW (ocwOf m a) (q .devstatus) (outputService m a q .effect .raised)
@@ -182,26 +173,10 @@ module _ (m : List ℕ) (a : ℕ) (q : Port) (sending : Sending (ocwOf m a)) whe
 
 -- ---- the rule as it was
 
--- the service, by any rule for the end
-unfoldable pub outputBy : (ℕ → ℕ → Bool) → List ℕ → ℕ → Port → Serviced
-outputBy rule m a q =
-    let ocw = ocwOf m a in
-    let last = rule (bufferOf m a .pointer) (bufferOf m a .end) in
-    let plan = outputPlan ocw q (fetchedOf m a) last (isSpecial (fetchedOf m a)) in
-    let done = not (outDone ocw) && (plan .done || becomesChanged ocw (q .devstatus)) in
-    serviced
-    (record
-    { sent = plan .sent; byte = plan .byte; raised = done; control = plan .control; devcontrol = plan .devcontrol })
-    (set (stepped m a) (a + atOCW) (writtenOCW ocw (q .devstatus) done))
-
-pub by-the-rule : (m : List ℕ) (a : ℕ) (q : Port) → outputService m a q ≡ outputBy atEnd m a q
-unfolding outputService outputBy stepped
-by-the-rule m a q = refl
-
 -- where OBP + 1 is below LOB or equal to it, it is the service by the rule before K2
-pub same-service : (m : List ℕ) (a : ℕ) (q : Port) → bufferOf m a .end < 65536 → bufferOf m a .pointer + 1 ≤ bufferOf m a .end → outputService m a q ≡ outputBy atEndWas m a q
+pub same-service : (m : List ℕ) (a : ℕ) (q : Port) → bufferOf m a .end < 65536 → bufferOf m a .pointer + 1 ≤ bufferOf m a .end → outputService m a q ≡ outputBy atEndWas isSpecial m a q
 unfolding outputBy
-same-service m a q word h = by-the-rule m a q ∙ rw (as-before (bufferOf m a .pointer) (bufferOf m a .end) word h)
+same-service m a q word h = by-the-rules m a q ∙ rw (as-before (bufferOf m a .pointer) (bufferOf m a .end) word h)
 
 -- OBP 2003 with LOB 2003 in a block at word 64, in automatic mode
 abbrev pub short : Visit 64
@@ -222,6 +197,6 @@ unfolding run
 short-ends = output-ends 64 (found 64 short) (short ∷ []) short-open (refl, tt) (lit≤ tt)
 
 -- by the rule as it was OUTDONE was clear after it, and OBP past LOB
-pub short-ran-on : bufferOf (outputBy atEndWas (short .memory) 64 (short .port) .memory) 64 ≡ record { control = 0o20000; pointer = 2004; end = 2003 }
+pub short-ran-on : bufferOf (outputBy atEndWas isSpecial (short .memory) 64 (short .port) .memory) 64 ≡ record { control = 0o20000; pointer = 2004; end = 2003 }
 unfolding outputBy atEndWas stepped outputPlan outDone isAuto autoPlan differs statusBits becomesChanged writtenOCW get put byteAt halfAt wordIf pick bit isSpecial
 short-ran-on = refl
