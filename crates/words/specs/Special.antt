@@ -4,6 +4,7 @@
 --   set1974     the set of that rule: 000's standard set, the default
 --   specialIn   a code by a set: the one test of a unit
 --   withCode    a set with another word on one code
+--   dictionarySet   the one that the dictionary wants: octal 174 ordinary, all else as in 1974
 -- Not here: what is done with a special code, in input and output; where a unit keeps its set, in unit's Record.
 -- Assumes nothing.
 use mathlib.Core.Bool.{Bool, false, _||_}
@@ -28,3 +29,7 @@ specialIn codes c = getD codes (c % 128) false
 -- the set, but for its word on the low seven bits of c
 unfoldable pub withCode : List Bool → ℕ → Bool → List Bool
 withCode codes c special = set codes (c % 128) special
+
+-- the 1974 set with octal 174, the glottal stop, ordinary
+abbrev pub dictionarySet : List Bool
+dictionarySet = withCode set1974 0o174 false

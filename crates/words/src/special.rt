@@ -1,6 +1,6 @@
 // Special and ordinary codes: the rule of 1974, the set of that rule, and the one test of a unit, by its set, for input, for output and for what is printed of them.
 ghost use mathlib.Core.Path.{_≡_};
-ghost use Rattle.words.specs.Special.{isSpecial, set1974, specialIn, withCode};
+ghost use Rattle.words.specs.Special.{isSpecial, set1974, specialIn, withCode, dictionarySet};
 
 // The rule of 1974: octal 0 to 37 or 174 to 177 in the low seven bits.
 pub fn is_special(c: u8) -> bool
@@ -43,4 +43,11 @@ pub fn with_code(codes: [bool; 128], c: u8, special: bool) -> [bool; 128]
     let mut r = codes;
     r[low] = special;
     r
+}
+
+// The set that the dictionary wants: the glottal stop is ordinary, so that it stays with its word.
+pub fn dictionary_set() -> [bool; 128]
+    ensures { λ r. ⌜ r ≡ dictionarySet ⌝ }
+{
+    with_code(set_1974(), 0o174, false)
 }

@@ -4,6 +4,7 @@
 --   default-set, default-drawn  the 1974 set is that rule for every code; its 128 places
 --   seven-bits                  a set is asked for the low seven bits alone
 --   with-same, with-other       another word on one code: there it is that word, and on every other code what it was
+--   dictionary-bar, dictionary-others   in the dictionary's set octal 174 is ordinary, and every other code as in 1974
 --   ext-codes                   two sets of 128 places that say the same of every code are the same set
 -- Not here: the definitions, in specs/Special; what becomes of a service by another set, in laws/Set of input, output and scan.
 -- Assumes nothing.
@@ -19,8 +20,8 @@ use lib.ListN.{length, getD, replicate}
 use lib.Seq.{getD-set-same, getD-set-other, ext-getD}
 use borrow.Author.Tests.{lt-ltb, le-ltb}
 use Rattle.ground.specs.Tab.{tab}
-use Rattle.ground.specs.laws.Arrays.{getD-tab}
-use Rattle.words.specs.Special.{isSpecial, set1974, specialIn, withCode}
+use Rattle.ground.specs.laws.Arrays.{tab-length, getD-tab}
+use Rattle.words.specs.Special.{isSpecial, set1974, specialIn, withCode, dictionarySet}
 
 -- ---- the rule of 1974
 
@@ -62,6 +63,13 @@ with-same codes c d t h e = ap (λ (k : ℕ). getD (withCode codes c t) k false)
 pub with-other : (codes : List Bool) (c d : ℕ) (t : Bool) → d % 128 ≢ c % 128 → specialIn (withCode codes c t) d ≡ specialIn codes d
 unfolding specialIn withCode
 with-other codes c d t n = getD-set-other codes (c % 128) (d % 128) t false n
+
+pub dictionary-bar : (c : ℕ) → c % 128 ≡ 0o174 → specialIn dictionarySet c ≡ false
+unfolding set1974
+dictionary-bar c e = with-same set1974 0o174 c false (tab-length 128 isSpecial) e
+
+pub dictionary-others : (c : ℕ) → c % 128 ≢ 0o174 → specialIn dictionarySet c ≡ isSpecial c
+dictionary-others c n = with-other set1974 0o174 c false n ∙ default-set c
 
 -- ---- a set is what it says
 

@@ -22,8 +22,7 @@ loop-holds c = (search needs, tab-none isSpecial _, search needs)
 
 loop-again : tie.Need-loop-again Inv-loop μ-loop
 loop-again c =
-    let l = c .before .before .loop in
-    (
+    let l = c .before .before .loop in (
       search needs,
       rw (c .is-special .ensures, l .inv .1, add-one (l .c)) (tab-one (l .c) isSpecial _ (omega arith)),
       search needs,
