@@ -1,4 +1,4 @@
--- The record of the unit (document 01, the unit and the host's memory).
+-- The record of the unit (document 01, the unit and the host's memory; document 02, K5: the set of special codes in its setting).
 --   noCharacter, noPort, noSetting, noMux   all zeros
 --   portAt, remade, withPort                a port of the record, the record with other parts, and with another port in its place
 --   freshPort, fresh                        what setup makes
@@ -24,9 +24,9 @@ noCharacter = record { byte = 0; parity = false; brk = false; overload = false }
 abbrev pub noPort : Port
 noPort = record { held = false; ch = noCharacter; empty = false; control = 0; devcontrol = false; devstatus = false }
 
--- a setting of zeros
+-- a setting of zeros: its set has a no for each of the 128 codes
 abbrev pub noSetting : Setting
-noSetting = record { block = 0; ports = 0; base = 0 }
+noSetting = record { block = 0; ports = 0; base = 0; special = replicate 128 false }
 
 -- a port of a fresh unit: nothing held, transmitter empty, control bits 0, Device Control 1, Device Status 0
 abbrev pub freshPort : Port

@@ -6,6 +6,7 @@
 --   Base       the two numbers of a wrong base, and what telling them apart changed
 --   Replies    the number of each answer; what a refused call leaves, and one that is not
 --   Ports      the ports of a record
+--   Set        the set of special codes in the setting and the record: setup keeps it, and no refusal asks it
 pub mod Refusals
 pub mod Sound
 pub mod Tables
@@ -13,3 +14,4 @@ pub mod Area
 pub mod Base
 pub mod Replies
 pub mod Ports
+pub mod Set

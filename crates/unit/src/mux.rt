@@ -6,11 +6,12 @@ ghost use Rattle.ground.specs.Choose.{Below};
 ghost use Rattle.unit.specs.Record.{portAt, withPort, blockAt, addressAt};
 ghost use Rattle.unit.specs.Sound.{Fits};
 
-// What setup takes: block size, P, base.
+// What setup takes: block size, P, base, and the set of special codes, a yes or no for each of the 128 seven-bit codes.
 pub struct Setting {
     pub block: u32,
     pub ports: u32,
     pub base: u32,
+    pub special: [bool; 128],
 }
 
 // A character as it was received: its code, and the parity, break and overload marks.

@@ -55,6 +55,7 @@ pub fn no_setting() -> Setting
         block: 0,
         ports: 0,
         base: 0,
+        special: [false; 128],
     }
 }
 

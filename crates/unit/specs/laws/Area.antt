@@ -22,6 +22,7 @@ use Rattle.ground.specs.Choose.{pick, asked, Row, row, firstOf}
 use Rattle.ground.specs.laws.Rows.{first-idle}
 use Rattle.unit.specs.declared.mux.Setting.{Setting}
 use Rattle.unit.specs.declared.mux.Mux.{Mux}
+use Rattle.unit.specs.Record.{noSetting}
 use Rattle.unit.specs.Refusals.{WORDS, BAD-BLOCK, CROSSES, TOO-HIGH, badBlock, badPorts, misaligned, tooHigh, crosses, sizeRows, baseRows, areaRows, settingRows, unsound, Given, rowsOf, callRows, tableOf, refusal, ofSetup}
 use Rattle.unit.specs.Setup.{setup}
 use Rattle.unit.specs.laws.Refusals.{never-five, setup-refusal}
@@ -89,7 +90,7 @@ calls-unchanged = same-calls rowsWithFive same-pass
 -- ---- what it rests on
 
 abbrev of : ℕ → ℕ → ℕ → Setting
-of b n a = record { block = b; ports = n; base = a }
+of b n a = record { block = b; ports = n; base = a; special = noSetting .special }
 
 -- a table without the rows of one number
 abbrev without : ℕ → List Row → List Row
