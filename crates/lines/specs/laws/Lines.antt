@@ -3,6 +3,7 @@
 --   line-either                  what holds of the record itself and of the record with its port written holds after the call
 --   line-keeps, line-sound       every other port and the rest of the record are as they were; a sound record stays sound
 --   line-ports                   the array of ports is as long as it was
+--   line-unread                  a unit with another set of special codes does the same (document 02, K5)
 --   line-port, line-written      the port that the signal came to
 --   arrived, emptied, changed    the port after an arrival, after "transmitter empty" and after a Device Status change
 --   arrived-only, emptied-only, status-only   and that nothing else of it changes
@@ -12,6 +13,7 @@
 -- Assumes nothing.
 use mathlib.Core.Path.{_≡_, refl, sym, _∙_}
 use mathlib.Core.Bool.{Bool, true}
+use mathlib.Core.List.{List}
 use mathlib.Core.Logic.{_⊎_, inr}
 use Prim.Native.Nat.{ℕ, _<_}
 use lib.ListN.{length, length-set}
@@ -24,6 +26,7 @@ use Rattle.unit.specs.Refusals.{refusal, ofPort}
 use Rattle.unit.specs.Sound.{Sound}
 use Rattle.unit.specs.laws.Sound.{sound-with}
 use Rattle.unit.specs.laws.Replies.{guarded-refused, guarded-accepted, either-way}
+use Rattle.unit.specs.laws.Set.{chosen, refusal-unread, again, guarded-unread}
 use Rattle.unit.specs.laws.Ports.{OnlyPort, only-port, held-inside, port-same, port-written}
 use Rattle.lines.specs.declared.signal.Signal.{Signal}
 use Rattle.lines.specs.declared.signal.Signal.the-variants.{Arrival, TransmitterEmpty, DeviceStatus}
@@ -52,6 +55,12 @@ line-keeps u p e = line-either (OnlyPort p u) u p e same (only-port u p _)
   where
     same : OnlyPort p u u
     same = record { setting = refl; pos = refl; runs = refl; clock = refl; irq = refl; others = λ r h. refl }
+
+-- with another set of special codes in the record it does the same, and the set is kept
+pub line-unread : (codes : List Bool) (u : Mux) (p : ℕ) (e : Signal) → line (chosen codes u) p e ≡ again codes (line u p e)
+unfolding line portAt
+line-unread codes u p e =
+    rw (refusal-unread codes codes (ofPort u p)) (guarded-unread codes (refusal (ofPort u p)) u (accepted 0 (withPort u p (signalled (portAt u p) e))))
 
 -- a sound record stays sound
 pub line-sound : (u : Mux) (p : ℕ) (e : Signal) → Sound u → Sound (line u p e .mux)

@@ -2,6 +2,8 @@
 --   order-refused, order-accepted     an order that is refused, and one that is not; of a sound record none is
 --   order-either                  what holds of the record itself and of the record after the order holds of the record that the call gives
 --   Keeps, reset-only, order-keeps   every order but reset leaves setting, position and ports as they were
+--   order-setting                 every order, reset among them, leaves the setting as it was
+--   order-unread                  a unit with another set of special codes does the same (document 02, K5)
 --   order-stays-sound, -ports     every order leaves a sound record sound, and the array of ports as long as it was
 --   reset-is .. reset-bits        a unit after reset: at rest at port 0; each port's speed bits 000, its other control bits and its Device
 --                                 Status line kept
@@ -34,6 +36,7 @@ use Rattle.unit.specs.Reply.{refused, accepted}
 use Rattle.unit.specs.Refusals.{refusal, ofUnit}
 use Rattle.unit.specs.Sound.{Sound}
 use Rattle.unit.specs.laws.Sound.{sound-iff, sound-with}
+use Rattle.unit.specs.laws.Set.{chosen, refusal-unread, again, guarded-unread}
 use Rattle.unit.specs.laws.Replies.{guarded-refused, guarded-accepted, either-way}
 use Rattle.processor.specs.declared.orders.Order.{Order}
 use Rattle.processor.specs.declared.orders.Order.the-variants.{Reset, Iopls, Start, Doc, Dob, Dia, Dias, Tick}
@@ -114,6 +117,38 @@ order-keeps u o e = order-either (Keeps u) u o (keeps-same u) (go (reset-or-keep
     go : (o ≡ Reset) ⊎ Keeps u (after o u) → Keeps u (after o u)
     go (inl r) = absurd (true≢false (sym (ap isReset r) ∙ e))
     go (inr k) = k
+
+-- reset keeps the setting too, the set of special codes in it
+pub order-setting : (u : Mux) (o : Order) → order u o .mux .setting ≡ u .setting
+unfolding after
+order-setting u o = order-either (λ v. v .setting ≡ u .setting) u o refl (by o)
+  where
+    by : (r : Order) → after r u .setting ≡ u .setting
+    by Reset = refl
+    by Iopls = refl
+    by Start = refl
+    by Doc = refl
+    by Dob = refl
+    by Dia = refl
+    by Dias = refl
+    by Tick = refl
+
+-- with another set of special codes in the record an order does the same, and the set is kept
+after-unread : (codes : List Bool) (u : Mux) (o : Order) → after o (chosen codes u) ≡ chosen codes (after o u)
+unfolding after
+after-unread codes u Reset = refl
+after-unread codes u Iopls = refl
+after-unread codes u Start = refl
+after-unread codes u Doc = refl
+after-unread codes u Dob = refl
+after-unread codes u Dia = refl
+after-unread codes u Dias = refl
+after-unread codes u Tick = refl
+
+pub order-unread : (codes : List Bool) (u : Mux) (o : Order) → order (chosen codes u) o ≡ again codes (order u o)
+unfolding order
+order-unread codes u o =
+    rw (refusal-unread codes codes (ofUnit u), after-unread codes u o) (guarded-unread codes (refusal (ofUnit u)) u (accepted (valueOf o (u .irq)) (after o u)))
 
 -- what keeps is as sound as it was
 pub keeps-sound : (u v : Mux) → Keeps u v → Sound u → Sound v
