@@ -1,4 +1,4 @@
--- The input service of a port (document 01, Input).
+-- The input service of a port (document 01, Input; document 02, K5: what is special is what the unit's set says).
 --   errorCode             the code of bits 4 and 5
 --   replacedICW, doneICW  the two ways in which ICW is written
 --   inputPlan             steps 1 to 6, a branch each
@@ -16,7 +16,7 @@ use Rattle.words.specs.Field.{get, put}
 use Rattle.words.specs.Codes.{atICW, atIBP, atLIB, INDONE, INMO, inNone, inSingle, inEcho, ASCII, FLAGS, flagNone, flagParity, flagOverload, flagBreak, NOT-ECHOED, SERVICE-OVERLOAD, CHARACTER, storedByte, wordByte, echoedByte, notEchoedByError, notEchoedBySpecial, PARITY-INHIBIT}
 use Rattle.words.specs.Pointer.{stepPtr, atEnd}
 use Rattle.words.specs.Byte.{wordIf, byteIf}
-use Rattle.words.specs.Special.{isSpecial}
+use Rattle.words.specs.Special.{specialIn}
 use Rattle.unit.specs.declared.mux.Character.{Character}
 use Rattle.unit.specs.declared.mux.Port.{Port}
 use Rattle.unit.specs.Reply.{Serviced, serviced}
@@ -92,14 +92,14 @@ carried plan a next m =
     (byteIf (plan .store) (wordIf (plan .store) m (a + atIBP) next) next (plan .byte))
     (a + atICW) (plan .icw)
 
--- the input service of the port q, whose control block starts at the word a
-unfoldable pub inputService : List ℕ → ℕ → Port → Serviced
-inputService m a q =
+-- the input service of the port q, whose control block starts at the word a, in a unit with that set of special codes
+unfoldable pub inputService : List Bool → List ℕ → ℕ → Port → Serviced
+inputService codes m a q =
     let icw = getD m (a + atICW) 0 in
     let ibp = getD m (a + atIBP) 0 in
     let lib = getD m (a + atLIB) 0 in
     let c = q .ch .byte in
-    let plan = inputPlan icw (errorCode (q .control) (q .ch)) c (atEnd ibp lib) (isSpecial c) (q .empty) in
+    let plan = inputPlan icw (errorCode (q .control) (q .ch)) c (atEnd ibp lib) (specialIn codes c) (q .empty) in
     serviced
     (record {
       sent = plan .echo;

@@ -17,7 +17,7 @@ use words::codes::ICW;
 use words::codes::LIB;
 use words::pointer::at_end;
 use words::pointer::step_ptr;
-use words::special::is_special;
+use words::special::special_in;
 ghost use mathlib.Core.Path.{_≡_};
 ghost use Prim.Native.Nat.{_<_};
 ghost use lib.ListN.{length};
@@ -48,11 +48,11 @@ fn carry(mem: &mut [u16], at: usize, next: u16, plan: Plan)
     word_if(mem, plan.write, at + ICW, plan.icw);
 }
 
-// The block starts at the word `at`; below 32761 its eight words lie in the memory, as `block_at` ensures.
-pub fn service(mem: &mut [u16], at: usize, q: Port) -> Effect
+// The block starts at the word `at`; below 32761 its eight words lie in the memory, as `block_at` ensures. The set is the unit's own.
+pub fn service(mem: &mut [u16], at: usize, q: Port, codes: [bool; 128]) -> Effect
     requires { ⌜ length (now mem) ≡ WORDS ⌝ }
     requires { ⌜ at < 32761 ⌝ }
-    ensures { λ r. ⌜ serviced r (now (mem .exit)) ≡ inputService (now (mem .entry)) at q ⌝ }
+    ensures { λ r. ⌜ serviced r (now (mem .exit)) ≡ inputService codes (now (mem .entry)) at q ⌝ }
 {
     let icw = mem[at + ICW];
     let ibp = mem[at + IBP];
@@ -63,7 +63,7 @@ pub fn service(mem: &mut [u16], at: usize, q: Port) -> Effect
         error_code(q.control, q.ch),
         c,
         at_end(ibp, lib),
-        is_special(c),
+        special_in(codes, c),
         q.empty,
     );
     carry(mem, at, step_ptr(ibp), plan);

@@ -1,4 +1,4 @@
--- The output service of a port (document 01, Output).
+-- The output service of a port (document 01, Output; document 02, K5: what is special is what the unit's set says).
 --   outputPlan      OUTDONE already set, then the four modes, a branch each
 --   statusBits      bits 4, 5 and 7 of OCW
 --   writtenOCW      OCW as it is written, last
@@ -16,7 +16,7 @@ use Rattle.words.specs.Field.{get, put}
 use Rattle.words.specs.Codes.{atOCW, atOBP, atLOB, OUTDONE, OUTMO, outNone, outAuto, outControl, SPECIAL-REQUEST, DEVICE-CONTROL, DEVICE-STATUS, PREVIOUS-STATUS, UNUSED, STATUS-CHANGED, CHARACTER}
 use Rattle.words.specs.Pointer.{stepPtr, atEnd}
 use Rattle.words.specs.Byte.{byteAt, wordIf}
-use Rattle.words.specs.Special.{isSpecial}
+use Rattle.words.specs.Special.{specialIn}
 use Rattle.unit.specs.declared.mux.Port.{Port}
 use Rattle.unit.specs.Reply.{Serviced, serviced}
 use Rattle.output.specs.declared.plan.Plan.{Plan}
@@ -85,16 +85,16 @@ unfoldable pub writtenOCW : ℕ → Bool → Bool → ℕ
 writtenOCW ocw line done =
     pick (outDone ocw) (statusBits ocw line) (put OUTDONE (bit done) (put UNUSED 0 (statusBits ocw line)))
 
--- the output service of the port q, whose control block starts at the word a
-unfoldable pub outputService : List ℕ → ℕ → Port → Serviced
-outputService m a q =
+-- the output service of the port q, whose control block starts at the word a, in a unit with that set of special codes
+unfoldable pub outputService : List Bool → List ℕ → ℕ → Port → Serviced
+outputService codes m a q =
     let ocw = getD m (a + atOCW) 0 in
     let obp = getD m (a + atOBP) 0 in
     let lob = getD m (a + atLOB) 0 in
     let next = stepPtr obp in
     let stepped = wordIf (isAuto ocw) m (a + atOBP) next in
     let fetched = byteAt stepped next in
-    let plan = outputPlan ocw q fetched (atEnd obp lob) (isSpecial fetched) in
+    let plan = outputPlan ocw q fetched (atEnd obp lob) (specialIn codes fetched) in
     let done = not (outDone ocw) && (plan .done || becomesChanged ocw (q .devstatus)) in
     serviced
     (record

@@ -12,7 +12,7 @@ returns c =
       c .before .before .before .carry .ensures,
       c .before .before .before .before .step-ptr .ensures,
       c .before .before .before .before .before .before .input-plan .ensures,
-      c .before .before .before .before .before .before .before .is-special .ensures,
+      c .before .before .before .before .before .before .before .special-in .ensures,
       c .before .before .before .before .before .before .before .before .at-end .ensures,
       c .before .before .before .before .before .before .before .before .before .error-code .ensures .is,
     )

@@ -22,7 +22,7 @@ use Rattle.words.specs.Codes.{atICW, atIBP, INDONE, INMO, inAuto, inEcho, flagN
 use Rattle.words.specs.laws.Codes.{word-fits}
 use Rattle.words.specs.Byte.{byteAt, wordIf, byteIf}
 use Rattle.words.specs.laws.Byte.{length-wordIf, length-byteIf, other-word, other-word-of-byte, other-byte-of-word, read-word, read-byte}
-use Rattle.words.specs.Special.{isSpecial}
+use Rattle.words.specs.Special.{specialIn}
 use Rattle.unit.specs.declared.mux.Port.{Port}
 use Rattle.unit.specs.laws.Sound.{Placed}
 use Rattle.input.specs.declared.plan.Plan.{Plan}
@@ -38,8 +38,8 @@ pub record Filling (icw : ℕ) : Type 0 where
 -- ---- the plan
 
 -- an error, or a special code in 7-bit ASCII mode: the character does not go to the buffer
-abbrev pub apart : List ℕ → ℕ → Port → Bool
-apart m a q = not (eqb (codeOf q) flagNone) || (ascii (icwOf m a) && isSpecial (q .ch .byte))
+abbrev pub apart : List Bool → List ℕ → ℕ → Port → Bool
+apart codes m a q = not (eqb (codeOf q) flagNone) || (ascii (icwOf m a) && specialIn codes (q .ch .byte))
 
 -- the echo that the mode asks for finds the transmitter busy
 abbrev pub busyOf : List ℕ → ℕ → Port → Bool
@@ -63,23 +63,23 @@ both-ways true t p r = refl
 both-ways false t p r = refl
 
 -- steps 1 to 3 are passed
-pub automatic : (m : List ℕ) (a : ℕ) (q : Port) → Filling (icwOf m a) → planOf m a q ≡ pick (apart m a q) (reportedPlan m a q) (bufferedPlan m a q)
+pub automatic : (codes : List Bool) (m : List ℕ) (a : ℕ) (q : Port) → Filling (icwOf m a) → planOf codes m a q ≡ pick (apart codes m a q) (reportedPlan m a q) (bufferedPlan m a q)
 unfolding inputPlan pick
-automatic m a q h = by (h .mode) ∙ both-ways (not (eqb (codeOf q) flagNone)) (ascii (icwOf m a) && isSpecial (q .ch .byte)) (reportedPlan m a q) (bufferedPlan m a q)
+automatic codes m a q h = by (h .mode) ∙ both-ways (not (eqb (codeOf q) flagNone)) (ascii (icwOf m a) && specialIn codes (q .ch .byte)) (reportedPlan m a q) (bufferedPlan m a q)
   where
     rest : Plan
-    rest = pick (not (eqb (codeOf q) flagNone)) (reportedPlan m a q) (pick (ascii (icwOf m a) && isSpecial (q .ch .byte)) (reportedPlan m a q) (bufferedPlan m a q))
+    rest = pick (not (eqb (codeOf q) flagNone)) (reportedPlan m a q) (pick (ascii (icwOf m a) && specialIn codes (q .ch .byte)) (reportedPlan m a q) (bufferedPlan m a q))
 
-    by : (get INMO (icwOf m a) ≡ inAuto) ⊎ (get INMO (icwOf m a) ≡ inEcho) → planOf m a q ≡ rest
+    by : (get INMO (icwOf m a) ≡ inAuto) ⊎ (get INMO (icwOf m a) ≡ inEcho) → planOf codes m a q ≡ rest
     by (inl e) = simp (h .clear, e)
     by (inr e) = simp (h .clear, e)
 
 -- ---- ICW
 
 -- where the plan writes ICW, ICW is what it says: no store comes after
-pub written : (m : List ℕ) (a : ℕ) (q : Port) (p : Plan) → Placed m a → planOf m a q ≡ p → p .write ≡ true → icwOf (after m a q) a ≡ p .icw
+pub written : (codes : List Bool) (m : List ℕ) (a : ℕ) (q : Port) (p : Plan) → Placed m a → planOf codes m a q ≡ p → p .write ≡ true → icwOf (after codes m a q) a ≡ p .icw
 unfolding inputService carried
-written m a q p h e w =
+written codes m a q p h e w =
     let next = nextOf m a in
     let before = byteIf (p .store) (wordIf (p .store) m (a + atIBP) next) next (p .byte) in
     ap (λ (r : Plan). icwOf (carried r a next m) a) e
@@ -89,23 +89,25 @@ written m a q p h e w =
 -- ---- a character that is stored
 
 -- its byte is in the buffer, and IBP names it unless the byte itself lies there. It is done, with an interrupt, only where the
--- buffer ends with it or its echo finds the transmitter busy; where it is not, ICW is as read. Every other word is as Kept says.
-pub record Stored (m : List ℕ) (a : ℕ) (q : Port) : Type 0 where
-  pub stored : byteAt (after m a q) (nextOf m a) ≡ storedByte (ascii (icwOf m a)) (q .ch .byte)
-  pub pointer : nextOf m a / 2 ≢ a + atIBP → getD (after m a q) (a + atIBP) 0 ≡ nextOf m a
-  pub interrupt : inputService m a q .effect .raised ≡ doneOf m a q
-  pub same-icw : doneOf m a q ≡ false → icwOf (after m a q) a ≡ icwOf m a
-  pub done-icw : doneOf m a q ≡ true → icwOf (after m a q) a ≡ doneICW (icwOf m a) flagNone (bit (busyOf m a q)) (q .ch .byte)
+-- buffer ends with it or its echo finds the transmitter busy; where it is not, ICW is as read. It is echoed where the mode asks for that
+-- and the transmitter is empty. Every other word is as Kept says.
+pub record Stored (codes : List Bool) (m : List ℕ) (a : ℕ) (q : Port) : Type 0 where
+  pub stored : byteAt (after codes m a q) (nextOf m a) ≡ storedByte (ascii (icwOf m a)) (q .ch .byte)
+  pub pointer : nextOf m a / 2 ≢ a + atIBP → getD (after codes m a q) (a + atIBP) 0 ≡ nextOf m a
+  pub interrupt : inputService codes m a q .effect .raised ≡ doneOf m a q
+  pub echo : inputService codes m a q .effect .sent ≡ (eqb (get INMO (icwOf m a)) inEcho && q .empty)
+  pub same-icw : doneOf m a q ≡ false → icwOf (after codes m a q) a ≡ icwOf m a
+  pub done-icw : doneOf m a q ≡ true → icwOf (after codes m a q) a ≡ doneICW (icwOf m a) flagNone (bit (busyOf m a q)) (q .ch .byte)
 
 -- a character whose place in the buffer is not this port's ICW. Its place may be IBP: the byte is stored after the pointer, and is there.
-pub stored : (m : List ℕ) (a : ℕ) (q : Port) → Placed m a → Filling (icwOf m a) → storedByte (ascii (icwOf m a)) (q .ch .byte) < 256 → apart m a q ≡ false → nextOf m a / 2 ≢ a + atICW → Stored m a q
+pub stored : (codes : List Bool) (m : List ℕ) (a : ℕ) (q : Port) → Placed m a → Filling (icwOf m a) → storedByte (ascii (icwOf m a)) (q .ch .byte) < 256 → apart codes m a q ≡ false → nextOf m a / 2 ≢ a + atICW → Stored codes m a q
 unfolding inputService carried storedPlan wordIf pick
-stored m a q placed h byte s not-icw =
+stored codes m a q placed h byte s not-icw =
     let next = nextOf m a in
     let done = doneOf m a q in
     let p = bufferedPlan m a q in
-    let planned = automatic m a q h ∙ pick-false (apart m a q) (reportedPlan m a q) p s in
-    let carries : after m a q ≡ carried p a next m = ap (λ (r : Plan). carried r a next m) planned in
+    let planned = automatic codes m a q h ∙ pick-false (apart codes m a q) (reportedPlan m a q) p s in
+    let carries : after codes m a q ≡ carried p a next m = ap (λ (r : Plan). carried r a next m) planned in
     let pointed = wordIf true m (a + atIBP) next in
     let there = byteIf true pointed next (p .byte) in
     record {
@@ -119,32 +121,33 @@ stored m a q placed h byte s not-icw =
           ∙ other-word-of-byte true pointed next (p .byte) (a + atIBP) (λ e. not-ibp (sym e))
           ∙ read-word m (a + atIBP) next (omega (arith, placed .words, placed .inside));
       interrupt = ap (λ (r : Plan). r .raised) planned;
+      echo = ap (λ (r : Plan). r .echo) planned;
       same-icw = λ quiet.
           ap (λ (r : List ℕ). getD r (a + atICW) 0) carries
           ∙ ap (λ (t : Bool). getD (wordIf t there (a + atICW) (p .icw)) (a + atICW) 0) quiet
           ∙ other-word-of-byte true pointed next (p .byte) (a + atICW) (λ e. not-icw (sym e))
           ∙ other-word true m (a + atIBP) next (a + atICW) (λ e. omega (arith, e));
-      done-icw = written m a q p placed planned;
+      done-icw = written codes m a q p placed planned;
     }
 
 -- ---- a character that is done
 
-pub raised-done : (m : List ℕ) (a : ℕ) (q : Port) → Placed m a → Filling (icwOf m a) → q .ch .byte < 256 → inputService m a q .effect .raised ≡ true → get INDONE (icwOf (after m a q) a) ≡ 1
+pub raised-done : (codes : List Bool) (m : List ℕ) (a : ℕ) (q : Port) → Placed m a → Filling (icwOf m a) → q .ch .byte < 256 → inputService codes m a q .effect .raised ≡ true → get INDONE (icwOf (after codes m a q) a) ≡ 1
 unfolding inputService donePlan storedPlan
-raised-done m a q placed h byte r = by (apart m a q) refl
+raised-done codes m a q placed h byte r = by (apart codes m a q) refl
   where
     icw : ℕ
     icw = icwOf m a
 
     -- the plan writes a word whose INDONE is set
-    set : (p : Plan) → planOf m a q ≡ p → p .write ≡ true → get INDONE (p .icw) ≡ 1 → get INDONE (icwOf (after m a q) a) ≡ 1
-    set p e w d = ap (get INDONE) (written m a q p placed e w) ∙ d
+    set : (p : Plan) → planOf codes m a q ≡ p → p .write ≡ true → get INDONE (p .icw) ≡ 1 → get INDONE (icwOf (after codes m a q) a) ≡ 1
+    set p e w d = ap (get INDONE) (written codes m a q p placed e w) ∙ d
 
     fits : wordByte (ascii icw) (q .ch .byte) < 256
     fits = word-fits (ascii icw) (q .ch .byte) byte
 
-    by : (t : Bool) → apart m a q ≡ t → get INDONE (icwOf (after m a q) a) ≡ 1
-    by true e = set (reportedPlan m a q) (automatic m a q h ∙ pick-true (apart m a q) (reportedPlan m a q) (bufferedPlan m a q) e) refl (done-done icw (codeOf q) 0 (q .ch .byte) (code-fits (q .control) (q .ch)) (lit< tt) fits)
+    by : (t : Bool) → apart codes m a q ≡ t → get INDONE (icwOf (after codes m a q) a) ≡ 1
+    by true e = set (reportedPlan m a q) (automatic codes m a q h ∙ pick-true (apart codes m a q) (reportedPlan m a q) (bufferedPlan m a q) e) refl (done-done icw (codeOf q) 0 (q .ch .byte) (code-fits (q .control) (q .ch)) (lit< tt) fits)
     by false e =
-        let planned = automatic m a q h ∙ pick-false (apart m a q) (reportedPlan m a q) (bufferedPlan m a q) e in
+        let planned = automatic codes m a q h ∙ pick-false (apart codes m a q) (reportedPlan m a q) (bufferedPlan m a q) e in
         set (bufferedPlan m a q) planned (sym (ap (λ (p : Plan). p .raised) planned) ∙ r) (done-done icw flagNone (bit (busyOf m a q)) (q .ch .byte) (lit< tt) (bit-below (busyOf m a q)) fits)

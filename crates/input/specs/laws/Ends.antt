@@ -29,7 +29,7 @@ use Rattle.words.specs.laws.Codes.{stored-fits}
 use Rattle.words.specs.laws.Pointer.{at-end-iff, goes-on, atEndWas, as-before}
 use Rattle.words.specs.laws.Buffer.{Buffer, room, Steps, Serves, Follow, left, ends}
 use Rattle.words.specs.Byte.{halfAt, byteAt, storeByte, wordIf, byteIf}
-use Rattle.words.specs.Special.{isSpecial}
+use Rattle.words.specs.Special.{isSpecial, set1974, specialIn}
 use Rattle.unit.specs.declared.mux.Port.{Port}
 use Rattle.unit.specs.laws.Sound.{Placed}
 use Rattle.input.specs.declared.plan.Plan.{Plan}
@@ -51,37 +51,39 @@ pub record Beside (a x : ℕ) : Type 0 where
   pub ibp : x / 2 ≢ a + atIBP
   pub lib : x / 2 ≢ a + atLIB
 
-module _ (m : List ℕ) (a : ℕ) (q : Port) (filling : Filling (icwOf m a)) where
+module _ (codes : List Bool) (m : List ℕ) (a : ℕ) (q : Port) (filling : Filling (icwOf m a)) where
   -- a character that raises no interrupt goes to the buffer, and is not done
-  pub quiet : inputService m a q .effect .raised ≡ false → (apart m a q ≡ false) × (doneOf m a q ≡ false)
+  pub quiet : inputService codes m a q .effect .raised ≡ false → (apart codes m a q ≡ false) × (doneOf m a q ≡ false)
   unfolding inputService donePlan storedPlan
-  quiet r = by (apart m a q) refl
+  quiet r = by (apart codes m a q) refl
     where
-      by : (t : Bool) → apart m a q ≡ t → (apart m a q ≡ false) × (doneOf m a q ≡ false)
-      by true e = absurd (false≢true (sym r ∙ ap (λ (p : Plan). p .raised) (automatic m a q filling ∙ pick-true (apart m a q) (reportedPlan m a q) (bufferedPlan m a q) e)))
-      by false e = (e, sym (ap (λ (p : Plan). p .raised) (automatic m a q filling ∙ pick-false (apart m a q) (reportedPlan m a q) (bufferedPlan m a q) e)) ∙ r)
+      by : (t : Bool) → apart codes m a q ≡ t → (apart codes m a q ≡ false) × (doneOf m a q ≡ false)
+      by true e = absurd (false≢true (sym r ∙ ap (λ (p : Plan). p .raised) (automatic codes m a q filling ∙ pick-true (apart codes m a q) (reportedPlan m a q) (bufferedPlan m a q) e)))
+      by false e = (e, sym (ap (λ (p : Plan). p .raised) (automatic codes m a q filling ∙ pick-false (apart codes m a q) (reportedPlan m a q) (bufferedPlan m a q) e)) ∙ r)
 
   -- so the end is not reached: the next place is one on, below the end
-  pub next-below : bufferOf m a .end < 65536 → inputService m a q .effect .raised ≡ false → (nextOf m a ≡ bufferOf m a .pointer + 1) × (bufferOf m a .pointer + 1 < bufferOf m a .end)
+  pub next-below : bufferOf m a .end < 65536 → inputService codes m a q .effect .raised ≡ false → (nextOf m a ≡ bufferOf m a .pointer + 1) × (bufferOf m a .pointer + 1 < bufferOf m a .end)
   next-below word r = goes-on (bufferOf m a .pointer) (bufferOf m a .end) word (or-false (lastOf m a) (busyOf m a q) (quiet r .1) .0)
 
   -- a stored character that is not done, its byte on none of the port's three words
-  pub steps : Placed m a → q .ch .byte < 256 → bufferOf m a .end < 65536 → inputService m a q .effect .raised ≡ false → Beside a (nextOf m a) → Steps (bufferOf m a) (bufferOf (after m a q) a) × (icwOf (after m a q) a ≡ icwOf m a)
+  pub steps : Placed m a → q .ch .byte < 256 → bufferOf m a .end < 65536 → inputService codes m a q .effect .raised ≡ false → Beside a (nextOf m a) → Steps (bufferOf m a) (bufferOf (after codes m a q) a) × (icwOf (after codes m a q) a ≡ icwOf m a)
   steps placed byte word r beside =
       let next = next-below word r in
-      let s = stored m a q placed filling (stored-fits (ascii (icwOf m a)) (q .ch .byte) byte) (quiet r .0) (beside .icw) in (
+      let s = stored codes m a q placed filling (stored-fits (ascii (icwOf m a)) (q .ch .byte) byte) (quiet r .0) (beside .icw) in (
         record {
           below = next .1;
           pointer = s .pointer (beside .ibp) ∙ next .0;
-          end = kept-word m a q (a + atLIB) (λ e. omega (arith, e)) (λ e. omega (arith, e)) (λ e. beside .lib (sym e));
+          end = kept-word codes m a q (a + atLIB) (λ e. omega (arith, e)) (λ e. omega (arith, e)) (λ e. beside .lib (sym e));
         },
         s .same-icw (quiet r .1),
       )
 
 -- ---- services one after the other
 
--- an input service of the port whose block starts at the word a: the memory that it finds, of 32,768 words, and the port with a character
+-- an input service of the port whose block starts at the word a: the unit's set of special codes, the memory that it finds, of 32,768 words, and the
+-- port with a character
 pub record Visit (a : ℕ) : Type 0 where
+  pub codes : List Bool
   pub memory : List ℕ
   pub port : Port
   pub placed : Placed memory a
@@ -92,7 +94,7 @@ abbrev pub found : (a : ℕ) → Visit a → Buffer
 found a v = bufferOf (v .memory) a
 
 abbrev pub leaves : (a : ℕ) → Visit a → Buffer
-leaves a v = bufferOf (after (v .memory) a (v .port)) a
+leaves a v = bufferOf (after (v .codes) (v .memory) a (v .port)) a
 
 -- INDONE is set
 abbrev pub Done : Buffer → Type 0
@@ -125,14 +127,14 @@ open-edges = (
 -- an open buffer is then done, or steps on and stays open; a buffer that is done stays done
 pub serves : (a : ℕ) (v : Visit a) → Serves (Open a) Done (found a v) (leaves a v)
 serves a v =
-    record { stays = λ d. replaced (v .memory) a (v .port) (v .placed) (v .byte) d .still-done; goes = λ o. by o (inputService (v .memory) a (v .port) .effect .raised) refl }
+    record { stays = λ d. replaced (v .codes) (v .memory) a (v .port) (v .placed) (v .byte) d .still-done; goes = λ o. by o (inputService (v .codes) (v .memory) a (v .port) .effect .raised) refl }
   where
-    by : Open a (found a v) → (t : Bool) → inputService (v .memory) a (v .port) .effect .raised ≡ t → Done (leaves a v) ⊎ (Open a (leaves a v) × Steps (found a v) (leaves a v))
-    by o true r = inl (raised-done (v .memory) a (v .port) (v .placed) (o .filling) (v .byte) r)
+    by : Open a (found a v) → (t : Bool) → inputService (v .codes) (v .memory) a (v .port) .effect .raised ≡ t → Done (leaves a v) ⊎ (Open a (leaves a v) × Steps (found a v) (leaves a v))
+    by o true r = inl (raised-done (v .codes) (v .memory) a (v .port) (v .placed) (o .filling) (v .byte) r)
     by o false r =
-        let next = next-below (v .memory) a (v .port) (o .filling) (o .word) r in
+        let next = next-below (v .codes) (v .memory) a (v .port) (o .filling) (o .word) r in
         let beside : Beside a (nextOf (v .memory) a) = rw (next .0) (o .beside (found a v .pointer + 1) (omega arith) (next .1)) in
-        let s = steps (v .memory) a (v .port) (o .filling) (v .placed) (v .byte) (o .word) r beside in
+        let s = steps (v .codes) (v .memory) a (v .port) (o .filling) (v .placed) (v .byte) (o .word) r beside in
         inr (
           record {
             filling = rw (s .1) (o .filling);
@@ -149,35 +151,36 @@ input-ends a b vs o f h = ends (found a) (leaves a) (Open a) Done (serves a) b v
 
 -- ---- a buffer that is set up too short
 
-module _ (m : List ℕ) (a : ℕ) (q : Port) (filling : Filling (icwOf m a)) where
+module _ (codes : List Bool) (m : List ℕ) (a : ℕ) (q : Port) (filling : Filling (icwOf m a)) where
   -- where LIB is at most IBP + 1, so where it is 0, the first character is done
-  pub first-ends : bufferOf m a .end ≤ bufferOf m a .pointer + 1 → inputService m a q .effect .raised ≡ true
-  first-ends h = by (inputService m a q .effect .raised) refl
+  pub first-ends : bufferOf m a .end ≤ bufferOf m a .pointer + 1 → inputService codes m a q .effect .raised ≡ true
+  first-ends h = by (inputService codes m a q .effect .raised) refl
     where
-      by : (t : Bool) → inputService m a q .effect .raised ≡ t → inputService m a q .effect .raised ≡ true
+      by : (t : Bool) → inputService codes m a q .effect .raised ≡ t → inputService codes m a q .effect .raised ≡ true
       by true r = r
-      by false r = absurd (false≢true (sym (or-false (lastOf m a) (busyOf m a q) (quiet m a q filling r .1) .0) ∙ at-end-iff (bufferOf m a .pointer) (bufferOf m a .end) .1 h))
+      by false r = absurd (false≢true (sym (or-false (lastOf m a) (busyOf m a q) (quiet codes m a q filling r .1) .0) ∙ at-end-iff (bufferOf m a .pointer) (bufferOf m a .end) .1 h))
 
   -- after IBP 65535 it is done whatever LIB is; if it is stored, its byte is in the left half of word 0, unless that word is ICW
-  pub from-top : bufferOf m a .pointer ≡ 65535 → bufferOf m a .end < 65536 → (inputService m a q .effect .raised ≡ true) × (Placed m a → q .ch .byte < 256 → apart m a q ≡ false → a ≢ 0 → get LEFT (getD (after m a q) 0 0) ≡ storedByte (ascii (icwOf m a)) (q .ch .byte))
+  pub from-top : bufferOf m a .pointer ≡ 65535 → bufferOf m a .end < 65536 → (inputService codes m a q .effect .raised ≡ true) × (Placed m a → q .ch .byte < 256 → apart codes m a q ≡ false → a ≢ 0 → get LEFT (getD (after codes m a q) 0 0) ≡ storedByte (ascii (icwOf m a)) (q .ch .byte))
   unfolding byteAt halfAt pick
   from-top top word =
       let next : nextOf m a ≡ 0 = rw top in (
         first-ends (omega (arith, top, word)),
-        λ placed byte s n. ap (λ (x : ℕ). byteAt (after m a q) x) (sym next) ∙ stored m a q placed filling (stored-fits (ascii (icwOf m a)) (q .ch .byte) byte) s (λ e. n (omega (arith, e, next))) .stored,
+        λ placed byte s n. ap (λ (x : ℕ). byteAt (after codes m a q) x) (sym next) ∙ stored codes m a q placed filling (stored-fits (ascii (icwOf m a)) (q .ch .byte) byte) s (λ e. n (omega (arith, e, next))) .stored,
       )
 
 -- ---- the rule as it was
 
 -- where IBP + 1 is below LIB or equal to it, it is the service by the rule before K2
-pub same-service : (m : List ℕ) (a : ℕ) (q : Port) → bufferOf m a .end < 65536 → bufferOf m a .pointer + 1 ≤ bufferOf m a .end → inputService m a q ≡ inputBy atEndWas isSpecial m a q
+pub same-service : (codes : List Bool) (m : List ℕ) (a : ℕ) (q : Port) → bufferOf m a .end < 65536 → bufferOf m a .pointer + 1 ≤ bufferOf m a .end → inputService codes m a q ≡ inputBy atEndWas (specialIn codes) m a q
 unfolding inputBy
-same-service m a q word h = by-the-rules m a q ∙ rw (as-before (bufferOf m a .pointer) (bufferOf m a .end) word h)
+same-service codes m a q word h = by-the-rules codes m a q ∙ rw (as-before (bufferOf m a .pointer) (bufferOf m a .end) word h)
 
 -- IBP 2003 with LIB 2003 in a block at word 64: a character of code 255 with no error, in automatic mode
 abbrev pub short : Visit 64
 short =
     record {
+      codes = set1974;
       memory = set (set (set (replicate 32768 0) 64 0o40000) 68 2003) 70 2003;
       port = record { held = true; ch = record { byte = 255; parity = false; brk = false; overload = false }; empty = true; control = 0; devcontrol = true; devstatus = false };
       placed = record { words = refl; inside = lit≤ tt };

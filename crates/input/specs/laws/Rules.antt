@@ -2,7 +2,7 @@
 -- service as it was then.
 --   inputBy        the service by two such rules
 --   by-the-rules   by today's it is today's service
--- Not here: what it was before K2, in Ends.
+-- Not here: what it was before K2, in Ends, and before K5, in Set.
 -- Assumes nothing.
 use mathlib.Core.Path.{_≡_, refl}
 use mathlib.Core.Bool.{Bool}
@@ -12,7 +12,7 @@ use lib.ListN.{getD}
 use Rattle.ground.specs.Choose.{pick}
 use Rattle.words.specs.Codes.{atIBP, atLIB, echoedByte}
 use Rattle.words.specs.Pointer.{atEnd}
-use Rattle.words.specs.Special.{isSpecial}
+use Rattle.words.specs.Special.{specialIn}
 use Rattle.unit.specs.declared.mux.Port.{Port}
 use Rattle.unit.specs.Reply.{Serviced, serviced}
 use Rattle.input.specs.Input.{ascii, inputPlan, carried, inputService}
@@ -33,6 +33,6 @@ inputBy ends special m a q =
     })
     (carried plan a (nextOf m a) m)
 
-pub by-the-rules : (m : List ℕ) (a : ℕ) (q : Port) → inputService m a q ≡ inputBy atEnd isSpecial m a q
+pub by-the-rules : (codes : List Bool) (m : List ℕ) (a : ℕ) (q : Port) → inputService codes m a q ≡ inputBy atEnd (specialIn codes) m a q
 unfolding inputService inputBy
-by-the-rules m a q = refl
+by-the-rules codes m a q = refl

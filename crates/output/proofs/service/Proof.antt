@@ -8,7 +8,7 @@ returns : tie.Need-returns
 unfolding outputService
 returns c =
     rw (c .written-ocw .ensures, c .before .is-done .ensures, c .before .before .output-plan .ensures)
-    (rw (c .before .before .before .is-special .ensures, c .before .before .before .before .at-end .ensures, c .before .before .before .before .before .fetch .ensures)
+    (rw (c .before .before .before .special-in .ensures, c .before .before .before .before .at-end .ensures, c .before .before .before .before .before .fetch .ensures)
     (rw (c .before .before .before .before .before .before .before .before .before .word-if .ensures, c .before .before .before .before .before .before .before .before .before .before .is-auto .ensures, c .before .before .before .before .before .before .before .before .before .before .before .before .step-ptr .ensures)))
 
 pub service-spec : {M : Type 1} → statement M

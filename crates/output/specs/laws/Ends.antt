@@ -31,7 +31,7 @@ use Rattle.words.specs.laws.Pointer.{at-end-iff, goes-on, atEndWas, as-before}
 use Rattle.words.specs.laws.Buffer.{Buffer, room, Steps, Serves, Follow, left, ends}
 use Rattle.words.specs.Byte.{halfAt, byteAt, wordIf}
 use Rattle.words.specs.laws.Byte.{length-wordIf, other-word, read-word}
-use Rattle.words.specs.Special.{isSpecial}
+use Rattle.words.specs.Special.{isSpecial, set1974, specialIn}
 use Rattle.unit.specs.declared.mux.Port.{Port}
 use Rattle.unit.specs.Record.{freshPort}
 use Rattle.unit.specs.laws.Sound.{Placed}
@@ -58,41 +58,42 @@ abbrev pub lastOf : List ℕ → ℕ → Bool
 lastOf m a = atEnd (bufferOf m a .pointer) (bufferOf m a .end)
 
 -- OCW after any service
-pub ocw-after : (m : List ℕ) (a : ℕ) (q : Port) → Placed m a → getD (after m a q) (a + atOCW) 0 ≡ writtenOCW (ocwOf m a) (q .devstatus) (outputService m a q .effect .raised)
+pub ocw-after : (codes : List Bool) (m : List ℕ) (a : ℕ) (q : Port) → Placed m a → getD (after codes m a q) (a + atOCW) 0 ≡ writtenOCW (ocwOf m a) (q .devstatus) (outputService codes m a q .effect .raised)
 unfolding outputService stepped
-ocw-after m a q h = getD-set-same (stepped m a) (a + atOCW) _ 0 (rw length-wordIf (omega (arith, h .words, h .inside)))
+ocw-after codes m a q h = getD-set-same (stepped m a) (a + atOCW) _ 0 (rw length-wordIf (omega (arith, h .words, h .inside)))
 
-module _ (m : List ℕ) (a : ℕ) (q : Port) (sending : Sending (ocwOf m a)) where
+module _ (codes : List Bool) (m : List ℕ) (a : ℕ) (q : Port) (sending : Sending (ocwOf m a)) where
   -- it is done at the end, at a special byte that was asked for, and where Device Status changed
-  raises : outputService m a q .effect .raised ≡ ((lastOf m a || (eqb (get SPECIAL-REQUEST (ocwOf m a)) 1 && isSpecial (fetchedOf m a))) || becomesChanged (ocwOf m a) (q .devstatus))
+  pub raises : outputService codes m a q .effect .raised ≡ ((lastOf m a || (eqb (get SPECIAL-REQUEST (ocwOf m a)) 1 && specialIn codes (fetchedOf m a))) || becomesChanged (ocwOf m a) (q .devstatus))
   unfolding outputService stepped outDone autoPlan
-  raises = rw (planned-auto (ocwOf m a) q (fetchedOf m a) (lastOf m a) (isSpecial (fetchedOf m a)) (sending .clear) (sending .mode), sending .clear)
+  raises = rw (planned-auto (ocwOf m a) q (fetchedOf m a) (lastOf m a) (specialIn codes (fetchedOf m a)) (sending .clear) (sending .mode), sending .clear)
 
   -- one that raises no interrupt has not reached the end: the next place is one on, below the end
-  pub next-below : bufferOf m a .end < 65536 → outputService m a q .effect .raised ≡ false → (nextOf m a ≡ bufferOf m a .pointer + 1) × (bufferOf m a .pointer + 1 < bufferOf m a .end)
+  pub next-below : bufferOf m a .end < 65536 → outputService codes m a q .effect .raised ≡ false → (nextOf m a ≡ bufferOf m a .pointer + 1) × (bufferOf m a .pointer + 1 < bufferOf m a .end)
   next-below word r = goes-on (bufferOf m a .pointer) (bufferOf m a .end) word (or-false _ _ (or-false _ _ (sym raises ∙ r) .0) .0)
 
   -- OBP after the service
-  pub obp-after : Placed m a → getD (after m a q) (a + atOBP) 0 ≡ nextOf m a
+  pub obp-after : Placed m a → getD (after codes m a q) (a + atOBP) 0 ≡ nextOf m a
   unfolding outputService stepped isAuto outDone
   obp-after h =
       getD-set-other (stepped m a) (a + atOCW) (a + atOBP) _ 0 (λ e. omega (arith, e))
       ∙ rw (sending .clear, sending .mode) (read-word m (a + atOBP) (nextOf m a) (omega (arith, h .words, h .inside)))
 
   -- a byte that is not done
-  pub steps : Placed m a → bufferOf m a .end < 65536 → outputService m a q .effect .raised ≡ false → Steps (bufferOf m a) (bufferOf (after m a q) a)
+  pub steps : Placed m a → bufferOf m a .end < 65536 → outputService codes m a q .effect .raised ≡ false → Steps (bufferOf m a) (bufferOf (after codes m a q) a)
   steps placed word r =
       let next = next-below word r in
       record {
         below = next .1;
         pointer = obp-after placed ∙ next .0;
-        end = kept-word m a q (a + atLOB) (λ e. omega (arith, e)) (λ e. omega (arith, e));
+        end = kept-word codes m a q (a + atLOB) (λ e. omega (arith, e)) (λ e. omega (arith, e));
       }
 
 -- ---- services one after the other
 
--- an output service of the port whose block starts at the word a: the memory that it finds, of 32,768 words, and the port
+-- an output service of the port whose block starts at the word a: the unit's set of special codes, the memory that it finds, of 32,768 words, and the port
 pub record Visit (a : ℕ) : Type 0 where
+  pub codes : List Bool
   pub memory : List ℕ
   pub port : Port
   pub placed : Placed memory a
@@ -102,7 +103,7 @@ abbrev pub found : (a : ℕ) → Visit a → Buffer
 found a v = bufferOf (v .memory) a
 
 abbrev pub leaves : (a : ℕ) → Visit a → Buffer
-leaves a v = bufferOf (after (v .memory) a (v .port)) a
+leaves a v = bufferOf (after (v .codes) (v .memory) a (v .port)) a
 
 -- OUTDONE is set
 abbrev pub Done : Buffer → Type 0
@@ -123,28 +124,28 @@ pub serves : (a : ℕ) (v : Visit a) → Serves Open Done (found a v) (leaves a 
 unfolding bit
 serves a v =
     record {
-      stays = λ d. ap (get OUTDONE) written ∙ written-set ocw (v .port .devstatus) (outputService (v .memory) a (v .port) .effect .raised) d;
-      goes = λ o. by o (outputService (v .memory) a (v .port) .effect .raised) refl;
+      stays = λ d. ap (get OUTDONE) written ∙ written-set ocw (v .port .devstatus) (outputService (v .codes) (v .memory) a (v .port) .effect .raised) d;
+      goes = λ o. by o (outputService (v .codes) (v .memory) a (v .port) .effect .raised) refl;
     }
   where
     ocw : ℕ
     ocw = found a v .control
 
-    written : leaves a v .control ≡ writtenOCW ocw (v .port .devstatus) (outputService (v .memory) a (v .port) .effect .raised)
-    written = ocw-after (v .memory) a (v .port) (v .placed)
+    written : leaves a v .control ≡ writtenOCW ocw (v .port .devstatus) (outputService (v .codes) (v .memory) a (v .port) .effect .raised)
+    written = ocw-after (v .codes) (v .memory) a (v .port) (v .placed)
 
-    done-is : Open (found a v) → get OUTDONE (leaves a v .control) ≡ bit (outputService (v .memory) a (v .port) .effect .raised)
-    done-is o = ap (get OUTDONE) written ∙ written-done ocw (v .port .devstatus) (outputService (v .memory) a (v .port) .effect .raised) (o .sending .clear)
+    done-is : Open (found a v) → get OUTDONE (leaves a v .control) ≡ bit (outputService (v .codes) (v .memory) a (v .port) .effect .raised)
+    done-is o = ap (get OUTDONE) written ∙ written-done ocw (v .port .devstatus) (outputService (v .codes) (v .memory) a (v .port) .effect .raised) (o .sending .clear)
 
-    by : Open (found a v) → (t : Bool) → outputService (v .memory) a (v .port) .effect .raised ≡ t → Done (leaves a v) ⊎ (Open (leaves a v) × Steps (found a v) (leaves a v))
+    by : Open (found a v) → (t : Bool) → outputService (v .codes) (v .memory) a (v .port) .effect .raised ≡ t → Done (leaves a v) ⊎ (Open (leaves a v) × Steps (found a v) (leaves a v))
     by o true r = inl (done-is o ∙ ap bit r)
     by o false r =
-        let s = steps (v .memory) a (v .port) (o .sending) (v .placed) (o .word) r in
+        let s = steps (v .codes) (v .memory) a (v .port) (o .sending) (v .placed) (o .word) r in
         inr (
           record {
             sending = record {
               clear = done-is o ∙ ap bit r;
-              mode = ap (get OUTMO) written ∙ written-mode ocw (v .port .devstatus) (outputService (v .memory) a (v .port) .effect .raised) ∙ o .sending .mode;
+              mode = ap (get OUTMO) written ∙ written-mode ocw (v .port .devstatus) (outputService (v .codes) (v .memory) a (v .port) .effect .raised) ∙ o .sending .mode;
             };
             word = rw (s .end) (o .word);
           },
@@ -158,30 +159,31 @@ output-ends a b vs o f h = ends (found a) (leaves a) Open Done (serves a) b vs f
 
 -- ---- a buffer that is set up too short
 
-module _ (m : List ℕ) (a : ℕ) (q : Port) (sending : Sending (ocwOf m a)) where
+module _ (codes : List Bool) (m : List ℕ) (a : ℕ) (q : Port) (sending : Sending (ocwOf m a)) where
   -- where LOB is at most OBP + 1, so where it is 0, the first byte is done
-  pub first-ends : bufferOf m a .end ≤ bufferOf m a .pointer + 1 → outputService m a q .effect .raised ≡ true
-  first-ends h = raises m a q sending ∙ rw (at-end-iff (bufferOf m a .pointer) (bufferOf m a .end) .1 h)
+  pub first-ends : bufferOf m a .end ≤ bufferOf m a .pointer + 1 → outputService codes m a q .effect .raised ≡ true
+  first-ends h = raises codes m a q sending ∙ rw (at-end-iff (bufferOf m a .pointer) (bufferOf m a .end) .1 h)
 
   -- after OBP 65535 it is done whatever LOB is, and the byte that is handed over is the left half of word 0
-  pub from-top : bufferOf m a .pointer ≡ 65535 → bufferOf m a .end < 65536 → (outputService m a q .effect .raised ≡ true) × (outputService m a q .effect .sent ≡ true) × (outputService m a q .effect .byte ≡ get LEFT (getD m 0 0))
+  pub from-top : bufferOf m a .pointer ≡ 65535 → bufferOf m a .end < 65536 → (outputService codes m a q .effect .raised ≡ true) × (outputService codes m a q .effect .sent ≡ true) × (outputService codes m a q .effect .byte ≡ get LEFT (getD m 0 0))
   unfolding outputService stepped autoPlan byteAt halfAt pick
   from-top top word =
       let next : nextOf m a ≡ 0 = rw top in
-      let plan = planned-auto (ocwOf m a) q (fetchedOf m a) (lastOf m a) (isSpecial (fetchedOf m a)) (sending .clear) (sending .mode) in
+      let plan = planned-auto (ocwOf m a) q (fetchedOf m a) (lastOf m a) (specialIn codes (fetchedOf m a)) (sending .clear) (sending .mode) in
       (first-ends (omega (arith, top, word)), ap (λ (p : Plan). p .sent) plan, ap (λ (p : Plan). p .byte) plan ∙ ap (λ (x : ℕ). byteAt (stepped m a) x) next ∙ ap (get LEFT) (other-word _ m (a + atOBP) _ 0 (λ e. omega (arith, e))))
 
 -- ---- the rule as it was
 
 -- where OBP + 1 is below LOB or equal to it, it is the service by the rule before K2
-pub same-service : (m : List ℕ) (a : ℕ) (q : Port) → bufferOf m a .end < 65536 → bufferOf m a .pointer + 1 ≤ bufferOf m a .end → outputService m a q ≡ outputBy atEndWas isSpecial m a q
+pub same-service : (codes : List Bool) (m : List ℕ) (a : ℕ) (q : Port) → bufferOf m a .end < 65536 → bufferOf m a .pointer + 1 ≤ bufferOf m a .end → outputService codes m a q ≡ outputBy atEndWas (specialIn codes) m a q
 unfolding outputBy
-same-service m a q word h = by-the-rules m a q ∙ rw (as-before (bufferOf m a .pointer) (bufferOf m a .end) word h)
+same-service codes m a q word h = by-the-rules codes m a q ∙ rw (as-before (bufferOf m a .pointer) (bufferOf m a .end) word h)
 
 -- OBP 2003 with LOB 2003 in a block at word 64, in automatic mode
 abbrev pub short : Visit 64
 short =
     record {
+      codes = set1974;
       memory = set (set (set (replicate 32768 0) 65 0o20000) 69 2003) 71 2003;
       port = freshPort;
       placed = record { words = refl; inside = lit≤ tt };

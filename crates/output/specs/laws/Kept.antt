@@ -21,29 +21,29 @@ use Rattle.unit.specs.declared.mux.Port.{Port}
 use Rattle.output.specs.Output.{isAuto, outputService}
 
 -- the memory after the service
-abbrev pub after : List ℕ → ℕ → Port → List ℕ
-after m a q = outputService m a q .memory
+abbrev pub after : List Bool → List ℕ → ℕ → Port → List ℕ
+after codes m a q = outputService codes m a q .memory
 
 -- the memory with the pointer stepped, or as it was: what the service finds when it writes OCW
 unfoldable pub stepped : List ℕ → ℕ → List ℕ
 stepped m a = wordIf (isAuto (getD m (a + atOCW) 0)) m (a + atOBP) (stepPtr (getD m (a + atOBP) 0))
 
 -- beside OCW the service leaves what the step left
-but-ocw : (m : List ℕ) (a : ℕ) (q : Port) (k : ℕ) → k ≢ a + atOCW → getD (after m a q) k 0 ≡ getD (stepped m a) k 0
+but-ocw : (codes : List Bool) (m : List ℕ) (a : ℕ) (q : Port) (k : ℕ) → k ≢ a + atOCW → getD (after codes m a q) k 0 ≡ getD (stepped m a) k 0
 unfolding outputService stepped
-but-ocw m a q k n = getD-set-other (stepped m a) (a + atOCW) k _ 0 n
+but-ocw codes m a q k n = getD-set-other (stepped m a) (a + atOCW) k _ 0 n
 
 -- the memory is as long as before
-pub kept-length : (m : List ℕ) (a : ℕ) (q : Port) → length (after m a q) ≡ length m
+pub kept-length : (codes : List Bool) (m : List ℕ) (a : ℕ) (q : Port) → length (after codes m a q) ≡ length m
 unfolding outputService
-kept-length m a q = simp (length-set, length-wordIf)
+kept-length codes m a q = simp (length-set, length-wordIf)
 
 -- a word that is neither OCW nor OBP is as it was
-pub kept-word : (m : List ℕ) (a : ℕ) (q : Port) (k : ℕ) → k ≢ a + atOCW → k ≢ a + atOBP → getD (after m a q) k 0 ≡ getD m k 0
+pub kept-word : (codes : List Bool) (m : List ℕ) (a : ℕ) (q : Port) (k : ℕ) → k ≢ a + atOCW → k ≢ a + atOBP → getD (after codes m a q) k 0 ≡ getD m k 0
 unfolding stepped
-kept-word m a q k o p = but-ocw m a q k o ∙ other-word (isAuto (getD m (a + atOCW) 0)) m (a + atOBP) (stepPtr (getD m (a + atOBP) 0)) k p
+kept-word codes m a q k o p = but-ocw codes m a q k o ∙ other-word (isAuto (getD m (a + atOCW) 0)) m (a + atOBP) (stepPtr (getD m (a + atOBP) 0)) k p
 
 -- a service that is no automatic output leaves every word but OCW as it was
-pub kept-pointer : (m : List ℕ) (a : ℕ) (q : Port) (k : ℕ) → isAuto (getD m (a + atOCW) 0) ≡ false → k ≢ a + atOCW → getD (after m a q) k 0 ≡ getD m k 0
+pub kept-pointer : (codes : List Bool) (m : List ℕ) (a : ℕ) (q : Port) (k : ℕ) → isAuto (getD m (a + atOCW) 0) ≡ false → k ≢ a + atOCW → getD (after codes m a q) k 0 ≡ getD m k 0
 unfolding stepped wordIf pick
-kept-pointer m a q k e o = but-ocw m a q k o ∙ ap (λ (t : Bool). getD (wordIf t m (a + atOBP) (stepPtr (getD m (a + atOBP) 0))) k 0) e
+kept-pointer codes m a q k e o = but-ocw codes m a q k o ∙ ap (λ (t : Bool). getD (wordIf t m (a + atOBP) (stepPtr (getD m (a + atOBP) 0))) k 0) e

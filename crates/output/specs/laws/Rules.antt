@@ -3,7 +3,7 @@
 --   ocwOf .. fetchedOf   OCW, the pointer of the next byte, and the byte
 --   outputBy             the service by two such rules
 --   by-the-rules         by today's it is today's service
--- Not here: what it was before K2, in Ends.
+-- Not here: what it was before K2, in Ends, and before K5, in Set.
 -- Assumes nothing.
 use mathlib.Core.Path.{_≡_, refl}
 use mathlib.Core.Bool.{Bool, not, _&&_, _||_}
@@ -13,7 +13,7 @@ use lib.ListN.{getD, set}
 use Rattle.words.specs.Codes.{atOCW, atOBP, atLOB}
 use Rattle.words.specs.Pointer.{stepPtr, atEnd}
 use Rattle.words.specs.Byte.{byteAt}
-use Rattle.words.specs.Special.{isSpecial}
+use Rattle.words.specs.Special.{specialIn}
 use Rattle.unit.specs.declared.mux.Port.{Port}
 use Rattle.unit.specs.Reply.{Serviced, serviced}
 use Rattle.output.specs.Output.{outDone, outputPlan, becomesChanged, writtenOCW, outputService}
@@ -41,6 +41,6 @@ outputBy ends special m a q =
     { sent = plan .sent; byte = plan .byte; raised = done; control = plan .control; devcontrol = plan .devcontrol })
     (set (stepped m a) (a + atOCW) (writtenOCW ocw (q .devstatus) done))
 
-pub by-the-rules : (m : List ℕ) (a : ℕ) (q : Port) → outputService m a q ≡ outputBy atEnd isSpecial m a q
+pub by-the-rules : (codes : List Bool) (m : List ℕ) (a : ℕ) (q : Port) → outputService codes m a q ≡ outputBy atEnd (specialIn codes) m a q
 unfolding outputService outputBy stepped
-by-the-rules m a q = refl
+by-the-rules codes m a q = refl
