@@ -25,10 +25,10 @@ use Rattle.input.specs.Input.{inputService}
 use Rattle.output.specs.Output.{outputService}
 use Rattle.scan.specs.declared.turn.Turned.{Turned}
 
--- the service of a port, whose control block starts at the word a
-unfoldable pub service : Service → List ℕ → ℕ → Port → Serviced
-service Input m a q = inputService m a q
-service Output m a q = outputService m a q
+-- the service of a port, whose control block starts at the word a, in a unit with that set of special codes
+unfoldable pub service : Service → List Bool → List ℕ → ℕ → Port → Serviced
+service Input codes m a q = inputService codes m a q
+service Output codes m a q = outputService codes m a q
 
 -- the port after output: the transmitter not empty if a byte was handed to it
 abbrev pub tookOutput : Port → Effect → Port
@@ -87,7 +87,7 @@ idleAs p q i = record { answer = record { turn = Idle; port = p; sent = false; b
 -- a turn that goes to a service
 unfoldable pub servedTurn : Service → Setting → ℕ → Port → Irq → List ℕ → Turning
 servedTurn k s p q i m =
-    let v = service k m (blockAt s p) q in
+    let v = service k (s .special) m (blockAt s p) q in
     turning (servedAs s p q i k (v .effect)) (v .memory)
 
 -- a turn that serves nothing

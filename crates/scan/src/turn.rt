@@ -26,14 +26,14 @@ pub struct Turned {
 }
 
 // The service of a port, of either kind.
-fn serve(k: Service, mem: &mut [u16], at: usize, q: Port) -> Effect
+fn serve(k: Service, mem: &mut [u16], at: usize, q: Port, codes: [bool; 128]) -> Effect
     requires { ⌜ length (now mem) ≡ WORDS ⌝ }
     requires { ⌜ at < 32761 ⌝ }
-    ensures { λ r. ⌜ serviced r (now (mem .exit)) ≡ service k (now (mem .entry)) at q ⌝ }
+    ensures { λ r. ⌜ serviced r (now (mem .exit)) ≡ service k codes (now (mem .entry)) at q ⌝ }
 {
     match k {
-        Service::Input => input::service(mem, at, q),
-        Service::Output => output::service(mem, at, q),
+        Service::Input => input::service(mem, at, q, codes),
+        Service::Output => output::service(mem, at, q, codes),
     }
 }
 
@@ -123,7 +123,8 @@ fn served_turn(s: Setting, p: u32, q: Port, i: Irq, k: Service, mem: &mut [u16])
     requires { ⌜ length (now mem) ≡ WORDS ⌝ }
     ensures { λ r. ⌜ turning r (now (mem .exit)) ≡ servedTurn k s p q i (now (mem .entry)) ⌝ }
 {
-    let e = serve(k, mem, block_at(s, p), q);
+    let codes = s.special;
+    let e = serve(k, mem, block_at(s, p), q, codes);
     served_as(s, p, q, i, k, e)
 }
 

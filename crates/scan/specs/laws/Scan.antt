@@ -130,10 +130,10 @@ pub record Does (p : ℕ) (i : Irq) (m : List ℕ) (t : Turning) : Type 0 where
   pub irq : unsound i ≡ false → unsound (t .turned .irq) ≡ false
   pub words : length (t .memory) ≡ length m
 
-service-length : (k : Service) (m : List ℕ) (a : ℕ) (q : Port) → length (service k m a q .memory) ≡ length m
+service-length : (k : Service) (codes : List Bool) (m : List ℕ) (a : ℕ) (q : Port) → length (service k codes m a q .memory) ≡ length m
 unfolding service
-service-length Input m a q = input-length m a q
-service-length Output m a q = output-length m a q
+service-length Input codes m a q = input-length codes m a q
+service-length Output codes m a q = output-length codes m a q
 
 irq-sound : (s : Setting) (p : ℕ) (i : Irq) (k : Service) (r : Bool) → unsound i ≡ false → unsound (irqAfter s p i k r) ≡ false
 unfolding irqAfter pick
@@ -148,7 +148,7 @@ service-counts Output = refl
 served-does : (k : Service) (s : Setting) (p : ℕ) (q : Port) (i : Irq) (m : List ℕ) → Does p i m (servedTurn k s p q i m)
 unfolding servedTurn
 served-does k s p q i m =
-    record { is-turn = service-counts k; names = refl; irq = irq-sound s p i k _; words = service-length k m _ q }
+    record { is-turn = service-counts k; names = refl; irq = irq-sound s p i k _; words = service-length k (s .special) m _ q }
 
 idle-does : (p : ℕ) (q : Port) (i : Irq) (m : List ℕ) → Does p i m (idleTurn p q i m)
 unfolding idleTurn counts
