@@ -1,19 +1,20 @@
--- The settled examples of document 01 that are marked *, values of the 1974 manual, and the edges of two requests, stated of the definitions.
+-- The settled examples of document 01 that are marked *, values of the 1974 manual, and worked examples of three requests, stated of the definitions.
 --   Starred   the examples of document 01, in its order
 --   Manual    001: section 6 and appendix B, as docs/DECISIONS.md makes them
 --   Bases     document 02, K1: where the two numbers of a wrong base begin and end
 --   Buffers   document 02, K2: buffers that are set up too short, and buffers that lie on their own port's words
+--   Sets      document 02, K5: a name with a glottal stop in it, in units of different sets
 -- Each is computed: a unit is set up and started, calls are made, and what they leave is compared.
 -- Not here: that they hold, in laws/Examples; the examples that are run and not proved, in the programs.
 -- Assumes nothing.
 use mathlib.Core.Path.{_≡_}
-use mathlib.Core.Bool.{true, false}
+use mathlib.Core.Bool.{Bool, true, false}
 use mathlib.Core.List.{List, [], _∷_}
 use Prim.Native.Nat.{ℕ, _+_}
 use lib.ListN.{getD, set, replicate}
 use Rattle.words.specs.Field.{get}
 use Rattle.words.specs.Codes.{PARITY-INHIBIT, STOP-BAUDS, EVEN-PARITY}
-use Rattle.words.specs.Special.{isSpecial}
+use Rattle.words.specs.Special.{set1974, specialIn, dictionarySet}
 use Rattle.words.specs.Length.{lengthOf}
 use Rattle.words.specs.Speed.{speedOf}
 use Rattle.interrupt.specs.declared.Service.the-variants.{Input, Output}
@@ -24,7 +25,7 @@ use Rattle.unit.specs.Record.{noMux, portAt}
 use Rattle.unit.specs.Reply.{World, world}
 use Rattle.unit.specs.Setup.{setup}
 use Rattle.lines.specs.declared.signal.Signal.the-variants.{Arrival, TransmitterEmpty, DeviceStatus}
-use Rattle.processor.specs.declared.orders.Order.the-variants.{Iopls, Doc, Dia, Tick}
+use Rattle.processor.specs.declared.orders.Order.the-variants.{Reset, Iopls, Doc, Dia, Tick}
 use Rattle.calls.specs.declared.call.Act.the-variants.{Line, Processor, Inspect}
 use Rattle.calls.specs.Events.{Single, setsUp, does, result, after, runSingles}
 
@@ -32,9 +33,9 @@ use Rattle.calls.specs.Events.{Single, setsUp, does, result, after, runS
 abbrev pub clear : List ℕ
 clear = replicate 32768 0
 
--- the setting of block size b, P ports and the base
+-- the setting of block size b, P ports and the base, with the 1974 set of special codes
 abbrev pub settingOf : ℕ → ℕ → ℕ → Setting
-settingOf b n base = record { block = b; ports = n; base = base }
+settingOf b n base = record { block = b; ports = n; base = base; special = set1974 }
 
 -- a unit set up with block size b, P ports and the base, started, on the memory m, after some more single things
 abbrev pub unitAfter : ℕ → ℕ → ℕ → List ℕ → List Single → World
@@ -92,12 +93,12 @@ pub record Starred : Type 0 where
   pub ports-33 : codeOf 32 33 15360 ≡ 4
   -- b 7 and P 0 together give 1
   pub first-number : codeOf 7 0 64 ≡ 1
-  -- codes 31, 124 and 127 special; 32 and 123 not
-  pub special-31 : isSpecial 31 ≡ true
-  pub special-124 : isSpecial 124 ≡ true
-  pub special-127 : isSpecial 127 ≡ true
-  pub ordinary-32 : isSpecial 32 ≡ false
-  pub ordinary-123 : isSpecial 123 ≡ false
+  -- codes 31, 124 and 127 special; 32 and 123 not: in the 1974 set, which is the default since K5
+  pub special-31 : specialIn set1974 31 ≡ true
+  pub special-124 : specialIn set1974 124 ≡ true
+  pub special-127 : specialIn set1974 127 ≡ true
+  pub ordinary-32 : specialIn set1974 32 ≡ false
+  pub ordinary-123 : specialIn set1974 123 ≡ false
   -- IBP 2000, LIB 2003: the right half of word 1000, the left and the right of 1001; the third is done
   pub first-byte : getD (unitAfter 8 1 64 (filling 2000 2003) three .memory) 1000 0 ≡ 1
   pub next-bytes : getD (unitAfter 8 1 64 (filling 2000 2003) three .memory) 1001 0 ≡ 0x0203
@@ -231,3 +232,46 @@ pub record Buffers : Type 0 where
   pub own-lib : getD (twice 139 255) 64 0 ≡ 0o40000
   pub own-ibp : getD (twice 136 136) 64 0 ≡ 0o40000
   pub own-ibp-back : getD (twice 136 136) 68 0 ≡ 136
+
+-- one port, its block at word 64, in a unit with that set, started, on the memory m, after some more single things
+abbrev pub schoolAfter : List Bool → List ℕ → List Single → World
+schoolAfter codes m xs =
+    runSingles (world noMux m) (setsUp (record { block = 8; ports = 1; base = 64; special = codes }) ∷ does (Processor Doc) ∷ xs)
+
+-- 7-bit ASCII automatic input, ICW 50000 octal, of eight-bit characters, OCW 40060 octal, with IBP 2000 and LIB 2010; some characters are typed, each
+-- served
+abbrev pub served : List ℕ → List Single
+served [] = []
+served (c ∷ cs) = typed 0 c ∷ look ∷ served cs
+
+abbrev pub named : List Bool → List ℕ → List ℕ
+named codes cs = schoolAfter codes (set (set (filling 2000 2010) 64 0o50000) 65 0o40060) (look ∷ served cs) .memory
+
+-- automatic output with a special request, OCW 30000 octal, from the buffer after OBP 2000 up to LOB 2010, whose first byte is b; after one inspection
+abbrev pub handed : List Bool → ℕ → List ℕ
+handed codes b = schoolAfter codes (set (set (emptying 2000 2010) 65 0o30000) 1000 b) (look ∷ []) .memory
+
+pub record Sets : Type 0 where
+  -- A, the glottal stop and B typed at a unit of the dictionary's set: they stand side by side in the buffer, IBP names the third, and ICW is as it was
+  pub kept-first : getD (named dictionarySet (0o101 ∷ 0o174 ∷ 0o102 ∷ [])) 1000 0 ≡ 0x00C1
+  pub kept-next : getD (named dictionarySet (0o101 ∷ 0o174 ∷ 0o102 ∷ [])) 1001 0 ≡ 0xFCC2
+  pub kept-pointer : getD (named dictionarySet (0o101 ∷ 0o174 ∷ 0o102 ∷ [])) 68 0 ≡ 2003
+  pub kept-icw : getD (named dictionarySet (0o101 ∷ 0o174 ∷ 0o102 ∷ [])) 64 0 ≡ 0o50000
+  -- at a unit of the 1974 set the glottal stop is in ICW, done, and the buffer has A alone
+  pub apart-first : getD (named set1974 (0o101 ∷ 0o174 ∷ [])) 1000 0 ≡ 0x00C1
+  pub apart-next : getD (named set1974 (0o101 ∷ 0o174 ∷ [])) 1001 0 ≡ 0
+  pub apart-pointer : getD (named set1974 (0o101 ∷ 0o174 ∷ [])) 68 0 ≡ 2001
+  pub apart-icw : getD (named set1974 (0o101 ∷ 0o174 ∷ [])) 64 0 ≡ 0o150374
+  -- the top bit is no part of a code: octal 374 is ordinary with octal 174
+  pub top-bit : getD (named dictionarySet (0o374 ∷ [])) 1000 0 ≡ 0x00FC
+  -- every code special: A is in ICW; every code ordinary: a carriage return is in the buffer
+  pub all-special : getD (named (replicate 128 true) (0o101 ∷ [])) 64 0 ≡ 0o150301
+  pub all-ordinary : getD (named (replicate 128 false) (0o15 ∷ [])) 1000 0 ≡ 0x008D
+  -- output with a special request: the glottal stop is done by the 1974 set and not by the dictionary's, where a carriage return still is
+  pub sent-special : getD (handed set1974 0o174) 65 0 ≡ 0o130000
+  pub sent-ordinary : getD (handed dictionarySet 0o174) 65 0 ≡ 0o30000
+  pub sent-return : getD (handed dictionarySet 0o15) 65 0 ≡ 0o130000
+  -- a reset keeps the set, and so does a setup that is refused; an accepted one brings its own
+  pub reset-keeps : schoolAfter dictionarySet clear (does (Processor Reset) ∷ []) .mux .setting .special ≡ dictionarySet
+  pub refused-keeps : schoolAfter dictionarySet clear (setsUp (settingOf 7 1 64) ∷ []) .mux .setting .special ≡ dictionarySet
+  pub accepted-brings : schoolAfter dictionarySet clear (setsUp (settingOf 8 1 64) ∷ []) .mux .setting .special ≡ set1974

@@ -1,5 +1,4 @@
 -- `calls::apply` meets its contract: each act is answered by its own call.
-use mathlib.Core.Path.{ap}
 use borrow.Author.Needs.{needs}
 use Rattle.calls.proofs.apply.Statement.{statement}
 use Rattle.calls.specs.Calls.{performed}

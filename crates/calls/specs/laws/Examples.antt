@@ -1,16 +1,17 @@
 -- The worked examples hold: each is computed.
 --   everything        every definition that a step of the unit computes with, named once
---   starred, manual, bases, buffers   the examples of document 01, those of the 1974 manual, and the edges of K1 and of K2
+--   starred, manual, bases, buffers, sets   the examples of document 01, those of the 1974 manual, and those of K1, K2 and K5
 -- Not here: what the examples are, in specs/Examples.
 -- Assumes nothing.
 use mathlib.Core.Path.{refl}
 use Rattle.ground.specs.Choose.{pick, bit, asked, firstOf}
+use Rattle.ground.specs.Tab.{tab}
 use Rattle.ground.specs.Machine
 use Rattle.words.specs.Field.{get, put}
 use Rattle.words.specs.Codes.{storedByte, wordByte, echoedByte}
 use Rattle.words.specs.Pointer.{atEnd}
 use Rattle.words.specs.Byte.{halfAt, byteAt, storeByte, wordIf, byteIf}
-use Rattle.words.specs.Special.{isSpecial}
+use Rattle.words.specs.Special.{isSpecial, set1974, specialIn, withCode}
 use Rattle.words.specs.Length.{lengthOf, spanOf, cut}
 use Rattle.words.specs.Speed.{speedOf}
 use Rattle.interrupt.specs.Interrupt as Interrupt
@@ -28,11 +29,11 @@ use Rattle.scan.specs.Turn.{service, took, irqAfter, servedTurn, idleTurn, turn
 use Rattle.scan.specs.Scan.{nextPos, serviceTurn, scanned, inspection}
 use Rattle.calls.specs.Calls.{setUp, performed}
 use Rattle.calls.specs.Events.{result, counted}
-use Rattle.calls.specs.Examples.{turnsOf, Starred, Manual, Bases, Buffers}
+use Rattle.calls.specs.Examples.{turnsOf, Starred, Manual, Bases, Buffers, Sets}
 
 -- every definition that a step of the unit computes with: to unfold this is to unfold them all
 unfoldable pub everything : Unit {0}
-unfolding pick bit asked firstOf Machine.run Machine.total get put storedByte wordByte echoedByte atEnd halfAt byteAt storeByte wordIf byteIf isSpecial lengthOf spanOf cut speedOf busy moreMarked serviceMarked statusAfter raised started ticked shown Interrupt.unsound portAt blockAt addressAt counts guarded badBlock badPorts misaligned tooHigh crosses sizeRows baseRows areaRows settingRows unsound rowsOf callRows tableOf refusal setup signalled line Processor.after order errorCode ascii replacedICW doneICW replacedPlan donePlan storedPlan inputPlan carried inputService outDone isAuto autoPlan controlPlan singlePlan outputPlan differs statusBits becomesChanged writtenOCW outputService service took irqAfter servedTurn idleTurn turn nextPos serviceTurn scanned inspection setUp performed result counted turnsOf
+unfolding pick bit asked firstOf Machine.run Machine.total get put storedByte wordByte echoedByte atEnd halfAt byteAt storeByte wordIf byteIf tab isSpecial set1974 specialIn withCode lengthOf spanOf cut speedOf busy moreMarked serviceMarked statusAfter raised started ticked shown Interrupt.unsound portAt blockAt addressAt counts guarded badBlock badPorts misaligned tooHigh crosses sizeRows baseRows areaRows settingRows unsound rowsOf callRows tableOf refusal setup signalled line Processor.after order errorCode ascii replacedICW doneICW replacedPlan donePlan storedPlan inputPlan carried inputService outDone isAuto autoPlan controlPlan singlePlan outputPlan differs statusBits becomesChanged writtenOCW outputService service took irqAfter servedTurn idleTurn turn nextPos serviceTurn scanned inspection setUp performed result counted turnsOf
 everything = tt
 
 pub starred : Starred
@@ -132,4 +133,27 @@ buffers =
       own-lib = refl;
       own-ibp = refl;
       own-ibp-back = refl;
+    }
+
+pub sets : Sets
+unfolding everything
+sets =
+    record {
+      kept-first = refl;
+      kept-next = refl;
+      kept-pointer = refl;
+      kept-icw = refl;
+      apart-first = refl;
+      apart-next = refl;
+      apart-pointer = refl;
+      apart-icw = refl;
+      top-bit = refl;
+      all-special = refl;
+      all-ordinary = refl;
+      sent-special = refl;
+      sent-ordinary = refl;
+      sent-return = refl;
+      reset-keeps = refl;
+      refused-keeps = refl;
+      accepted-brings = refl;
     }
