@@ -1,12 +1,13 @@
 -- What a driver keeps (tests/second/FORMAT.md, what a driver keeps).
 --   Kept                                               the desk, the memory and the list
 --   newDesk                                            the desk at the start of a session
---   withUnit, withWords, withPlaces, withLine, closed  the desk with one part changed
+--   withUnit, withWords, withPlaces, withCodes, withLine, closed   the desk with one part changed
 -- Not here: what an order makes of it, in Session.
 -- Assumes nothing.
-use mathlib.Core.Bool.{true, false}
+use mathlib.Core.Bool.{Bool, true, false}
 use mathlib.Core.List.{List}
 use Prim.Native.Nat.{ℕ}
+use Rattle.words.specs.Special.{set1974}
 use Rattle.unit.specs.declared.mux.Mux.{Mux}
 use Rattle.unit.specs.Record.{noMux}
 use Rattle.driver.specs.declared.read.Line.{Line}
@@ -22,26 +23,30 @@ pub record Kept : Type 0 where
 abbrev pub kept : Desk → List ℕ → List ℕ → Kept
 kept d m xs = record { desk = d; memory = m; list = xs }
 
--- at the start, and again after each end of session: the record of zeros, 32768 words lent and no place
+-- at the start, and again after each end of session: the record of zeros, 32768 words lent and no place, the 1974 set
 abbrev pub newDesk : Desk
-newDesk = record { going = true; line = blank; unit = noMux; words = 32768; places = 0 }
+newDesk = record { going = true; line = blank; unit = noMux; words = 32768; places = 0; codes = set1974 }
 
 -- another unit
 abbrev pub withUnit : Desk → Mux → Desk
-withUnit d u = record { going = d .going; line = d .line; unit = u; words = d .words; places = d .places }
+withUnit d u = record { going = d .going; line = d .line; unit = u; words = d .words; places = d .places; codes = d .codes }
 
 -- so many words lent
 abbrev pub withWords : Desk → ℕ → Desk
-withWords d k = record { going = d .going; line = d .line; unit = d .unit; words = k; places = d .places }
+withWords d k = record { going = d .going; line = d .line; unit = d .unit; words = k; places = d .places; codes = d .codes }
 
 -- so many places lent
 abbrev pub withPlaces : Desk → ℕ → Desk
-withPlaces d k = record { going = d .going; line = d .line; unit = d .unit; words = d .words; places = k }
+withPlaces d k = record { going = d .going; line = d .line; unit = d .unit; words = d .words; places = k; codes = d .codes }
+
+-- another set for setups
+abbrev pub withCodes : Desk → List Bool → Desk
+withCodes d codes = record { going = d .going; line = d .line; unit = d .unit; words = d .words; places = d .places; codes = codes }
 
 -- the line as it is read so far
 abbrev pub withLine : Desk → Line → Desk
-withLine d l = record { going = d .going; line = l; unit = d .unit; words = d .words; places = d .places }
+withLine d l = record { going = d .going; line = l; unit = d .unit; words = d .words; places = d .places; codes = d .codes }
 
 -- at the end of the text
 abbrev pub closed : Desk → Desk
-closed d = record { going = false; line = d .line; unit = d .unit; words = d .words; places = d .places }
+closed d = record { going = false; line = d .line; unit = d .unit; words = d .words; places = d .places; codes = d .codes }

@@ -1,15 +1,18 @@
 -- What the numbers of a line of a session's text ask of the unit (tests/second/FORMAT.md, orders 1 to 14).
 --   nth                         a number of the line: the opcode is the first, at 0
---   settingOf                   the setting of order 1
+--   settingOf                   the setting of order 1, with the set that stands
 --   signalOf, orderOf, actOf    orders 2 to 4, 5 to 12, and 2 to 13
 --   callOf                      orders 1 to 14 as a call
+--   setOf                       the whole sets of order 28
 -- Not here: what a call does, `step` in Calls of the crate calls; the other orders, in Session; what is printed, in Said.
 -- Assumes nothing.
+use mathlib.Core.Bool.{Bool, true, false}
 use mathlib.Core.List.{List}
 use Prim.Native.Nat.{ℕ, _%_}
 use lib.Dec.{eqb, ltb}
-use lib.ListN.{getD}
+use lib.ListN.{getD, replicate}
 use Rattle.ground.specs.Choose.{pick}
+use Rattle.words.specs.Special.{set1974}
 use Rattle.unit.specs.declared.mux.Setting.{Setting}
 use Rattle.lines.specs.declared.signal.Signal.{Signal}
 use Rattle.lines.specs.declared.signal.Signal.the-variants.{Arrival, TransmitterEmpty, DeviceStatus}
@@ -27,8 +30,8 @@ abbrev pub nth : List ℕ → ℕ → ℕ
 nth n k = getD n k 0
 
 -- order 1 b P base take
-abbrev pub settingOf : List ℕ → Setting
-settingOf n = record { block = nth n 1; ports = nth n 2; base = nth n 3 }
+abbrev pub settingOf : List Bool → List ℕ → Setting
+settingOf codes n = record { block = nth n 1; ports = nth n 2; base = nth n 3; special = codes }
 
 -- order 2 port byte parity break; order 3 port; order 4 port level
 unfoldable pub signalOf : List ℕ → Signal
@@ -53,8 +56,12 @@ actOf n =
     pick (ltb (nth n 0) 5) (Line (nth n 1) (signalOf n))
     (pick (ltb (nth n 0) 13) (Processor (orderOf (nth n 0))) Inspect)
 
--- order 1 a setup, 2 to 13 one thing, 14 n look: a sweep of n inspections
-unfoldable pub callOf : List ℕ → Call
-callOf n =
-    pick (eqb (nth n 0) 1) (settingUp (settingOf n))
+-- order 1 a setup with that setting, 2 to 13 one thing, 14 n look: a sweep of n inspections
+unfoldable pub callOf : Setting → List ℕ → Call
+callOf s n =
+    pick (eqb (nth n 0) 1) (settingUp s)
     (pick (ltb (nth n 0) 14) (asking (Do (actOf n))) (asking (Sweep (nth n 1))))
+
+-- order 28: 0 no code special, 1 every code, 2 the 1974 set
+unfoldable pub setOf : ℕ → List Bool
+setOf which = pick (eqb which 0) (replicate 128 false) (pick (eqb which 1) (replicate 128 true) set1974)

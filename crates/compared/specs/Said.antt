@@ -14,6 +14,7 @@ use lib.Dec.{eqb}
 use lib.ListN.{take}
 use Rattle.ground.specs.Choose.{pick, bit}
 use Rattle.words.specs.Speed.{speedOf}
+use Rattle.unit.specs.declared.mux.Setting.{Setting}
 use Rattle.unit.specs.declared.mux.Mux.{Mux}
 use Rattle.unit.specs.declared.reply.Answer.{Answer}
 use Rattle.unit.specs.declared.reply.Reply.{Reply}
@@ -22,7 +23,7 @@ use Rattle.unit.specs.Setup.{setup}
 use Rattle.driver.specs.declared.say.Said.{Said}
 use Rattle.driver.specs.Digest.{digest, recordDigest, windowDigest}
 use Rattle.driver.specs.Printed.{and}
-use Rattle.compared.specs.Orders.{nth, settingOf}
+use Rattle.compared.specs.Orders.{nth}
 
 -- numbers to print after those already gathered
 abbrev pub saying : Said → List ℕ → Said
@@ -32,18 +33,18 @@ saying s xs = foldl and s xs
 abbrev pub answerSaid : Answer → List ℕ
 answerSaid a = turnNumber (a .turn) ∷ a .port ∷ bit (a .sent) ∷ a .byte ∷ bit (a .raised) ∷ []
 
--- order 1: made; orders 10 and 11: value; order 13: the answer; order 14: made used
-unfoldable pub besideOf : List ℕ → Reply → List ℕ
-besideOf n r =
-    pick (eqb (nth n 0) 1) (recordDigest (setup (settingOf n) .mux) ∷ [])
+-- order 1, of its setting: made; orders 10 and 11: value; order 13: the answer; order 14: made used
+unfoldable pub besideOf : Setting → List ℕ → Reply → List ℕ
+besideOf s n r =
+    pick (eqb (nth n 0) 1) (recordDigest (setup s .mux) ∷ [])
     (pick (eqb (nth n 0) 10) (r .value ∷ [])
     (pick (eqb (nth n 0) 11) (r .value ∷ [])
     (pick (eqb (nth n 0) 13) (answerSaid (r .answer))
     (pick (eqb (nth n 0) 14) (r .made ∷ r .used ∷ []) []))))
 
 -- the opcode, the code, and what the order has beside it
-abbrev pub toldOf : List ℕ → Reply → List ℕ
-toldOf n r = nth n 0 ∷ r .code ∷ besideOf n r
+abbrev pub toldOf : Setting → List ℕ → Reply → List ℕ
+toldOf s n r = nth n 0 ∷ r .code ∷ besideOf s n r
 
 -- order 13 look: window; order 14 n look: window list
 unfoldable pub lookedOf : List ℕ → ℕ → List ℕ → List ℕ → List ℕ
@@ -51,9 +52,9 @@ lookedOf n places m xs =
     pick (eqb (nth n 0) 13) (windowDigest m (nth n 1) ∷ [])
     (pick (eqb (nth n 0) 14) (windowDigest m (nth n 2) ∷ digest (take places xs) ∷ []) [])
 
--- orders 1 to 14, of the reply and of unit, memory and list after the order
-abbrev pub unitSaid : List ℕ → Reply → Mux → ℕ → List ℕ → List ℕ → List ℕ
-unitSaid n r u places m xs = toldOf n r ++ (recordDigest u ∷ lookedOf n places m xs)
+-- orders 1 to 14, of order 1's setting, the reply, and unit, memory and list after the order
+abbrev pub unitSaid : Setting → List ℕ → Reply → Mux → ℕ → List ℕ → List ℕ → List ℕ
+unitSaid s n r u places m xs = toldOf s n r ++ (recordDigest u ∷ lookedOf n places m xs)
 
 -- order 26 control: speed
 abbrev pub speedSaid : List ℕ → List ℕ

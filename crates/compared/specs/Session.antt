@@ -1,6 +1,6 @@
 -- What each order of a session's text leaves, and the text taken byte by byte (tests/second/FORMAT.md, Orders).
 --   calledLent, standing, unitOrder   orders 1 to 14
---   deskOrder, hostOrder              orders 20 to 25
+--   setOrder, deskOrder, hostOrder    orders 20 to 25 and 27 to 29
 --   endOrder                          orders 30 and 31
 --   orderBy, order                    any order by its numbers, 26 among them; the order of the line that has been read
 --   takeByte, played                  one byte of the text, and all of it: a fold
@@ -15,6 +15,8 @@ use Prim.Native.Nat.{ℕ, _%_}
 use lib.Dec.{eqb, ltb}
 use lib.ListN.{length, take, drop, set}
 use Rattle.ground.specs.Choose.{pick}
+use Rattle.words.specs.Special.{withCode}
+use Rattle.unit.specs.declared.mux.Setting.{Setting}
 use Rattle.unit.specs.declared.mux.Mux.{Mux}
 use Rattle.unit.specs.Reply.{world, Outcome}
 use Rattle.unit.specs.Setup.{setup}
@@ -22,11 +24,11 @@ use Rattle.calls.specs.declared.call.Call.{Call}
 use Rattle.calls.specs.Calls.{step}
 use Rattle.driver.specs.declared.read.Line.{Line}
 use Rattle.driver.specs.Host.{series}
-use Rattle.driver.specs.Poke.{poked, pokedPort}
+use Rattle.driver.specs.Poke.{level, poked, pokedPort, pokedSpecial}
 use Rattle.driver.specs.Text.{blank, typed}
 use Rattle.compared.specs.declared.Desk.{Desk}
-use Rattle.compared.specs.Desk.{Kept, kept, newDesk, withUnit, withWords, withPlaces, withLine, closed}
-use Rattle.compared.specs.Orders.{nth, settingOf, callOf}
+use Rattle.compared.specs.Desk.{Kept, kept, newDesk, withUnit, withWords, withPlaces, withCodes, withLine, closed}
+use Rattle.compared.specs.Orders.{nth, settingOf, callOf, setOf}
 
 -- what a call left of the lent words and places, and the rest behind them as it was
 abbrev pub lentBack : Outcome → List ℕ → List ℕ → Outcome
@@ -41,22 +43,31 @@ calledLent k c =
     (drop (k .desk .places) (k .list))
 
 -- the unit after orders 1 to 14, of the one that the call left: the record of a setup with take 1, refused or not
-unfoldable pub standing : Mux → List ℕ → Mux
-standing u n = pick (eqb (nth n 0) 1 && eqb (nth n 4) 1) (setup (settingOf n) .mux) u
+unfoldable pub standing : Mux → Setting → List ℕ → Mux
+standing u s n = pick (eqb (nth n 0) 1 && eqb (nth n 4) 1) (setup s .mux) u
 
 -- orders 1 to 14: the call, and the unit that stands after it
-abbrev pub unitAfter : Desk → List ℕ → Outcome → Kept
-unitAfter d n o = kept (withUnit d (standing (o .world .mux) n)) (o .world .memory) (o .list)
+abbrev pub unitAfter : Desk → Setting → List ℕ → Outcome → Kept
+unitAfter d s n o = kept (withUnit d (standing (o .world .mux) s n)) (o .world .memory) (o .list)
 
 unfoldable pub unitOrder : Kept → List ℕ → Kept
-unitOrder k n = unitAfter (k .desk) n (calledLent k (callOf n))
+unitOrder k n =
+    let s = settingOf (k .desk .codes) n in
+    unitAfter (k .desk) s n (calledLent k (callOf s n))
 
--- order 22 words; order 24 field value; order 25 port field value
+-- order 27 code yes; order 28 which; order 29 code yes
+unfoldable pub setOrder : Desk → List ℕ → Desk
+setOrder d n =
+    pick (eqb (nth n 0) 27) (withCodes d (withCode (d .codes) (nth n 1 % 256) (level (nth n 2))))
+    (pick (eqb (nth n 0) 28) (withCodes d (setOf (nth n 1)))
+    (pick (eqb (nth n 0) 29) (withUnit d (pokedSpecial (d .unit) (nth n 1) (nth n 2))) d))
+
+-- order 22 words; order 24 field value; order 25 port field value; else the set alone
 unfoldable pub deskOrder : Desk → List ℕ → Desk
 deskOrder d n =
     pick (eqb (nth n 0) 22) (withWords d (nth n 1))
     (pick (eqb (nth n 0) 24) (withUnit d (poked (d .unit) (nth n 1) (nth n 2)))
-    (pick (eqb (nth n 0) 25) (withUnit d (pokedPort (d .unit) (nth n 1) (nth n 2) (nth n 3))) d))
+    (pick (eqb (nth n 0) 25) (withUnit d (pokedPort (d .unit) (nth n 1) (nth n 2) (nth n 3))) (setOrder d n)))
 
 -- order 20 address word; order 21 x; order 23 places value; else the desk alone
 unfoldable pub hostOrder : Kept → List ℕ → Kept
@@ -70,7 +81,7 @@ hostOrder k n =
 unfoldable pub endOrder : Kept → ℕ → Kept
 endOrder k op = pick (eqb op 31) (kept newDesk (map (λ _. 0) (k .memory)) (map (λ _. 0) (k .list))) k
 
--- an order by its numbers: 1 to 14 the unit, 20 to 25 the host, 26 printed alone, 30 and 31 the end
+-- an order by its numbers: 1 to 14 the unit, 20 to 25 and 27 to 29 the host, 26 printed alone, 30 and 31 the end
 unfoldable pub orderBy : Kept → List ℕ → Kept
 orderBy k n =
     pick (ltb (nth n 0) 20) (unitOrder k n)

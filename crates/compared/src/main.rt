@@ -14,6 +14,7 @@ use driver::host::set_all;
 use driver::host::write;
 use driver::poke::poked;
 use driver::poke::poked_port;
+use driver::poke::poked_special;
 use driver::read::Line;
 use driver::read::blank;
 use driver::read::typed;
@@ -31,6 +32,8 @@ use unit::reply::Reply;
 use unit::reply::turn_number;
 use unit::setup::no_mux;
 use unit::setup::setup;
+use words::special::set_1974;
+use words::special::with_code;
 use words::speed::speed_of;
 ghost use mathlib.Core.Path.{_≡_};
 ghost use lib.ListN.{take};
@@ -40,18 +43,19 @@ ghost use Rattle.unit.specs.Setup.{setup};
 ghost use Rattle.driver.specs.Digest.{digest};
 ghost use Rattle.driver.specs.Text.{Turned};
 ghost use Rattle.driver.specs.Printed.{nothing};
-ghost use Rattle.compared.specs.Orders.{settingOf, signalOf, orderOf, actOf, callOf};
-ghost use Rattle.compared.specs.Desk.{kept, newDesk, withUnit, withWords, withPlaces, withLine, closed};
+ghost use Rattle.compared.specs.Orders.{settingOf, signalOf, orderOf, actOf, callOf, setOf};
+ghost use Rattle.compared.specs.Desk.{kept, newDesk, withUnit, withWords, withPlaces, withCodes, withLine, closed};
 ghost use Rattle.compared.specs.Said.{saying, answerSaid, toldOf, lookedOf, unitSaid, wholeSaid, speedSaid};
-ghost use Rattle.compared.specs.Session.{calledLent, standing, unitOrder, deskOrder, hostOrder, endOrder, order, takeByte, played, shut, Driven};
+ghost use Rattle.compared.specs.Session.{calledLent, standing, unitOrder, setOrder, deskOrder, hostOrder, endOrder, order, takeByte, played, shut, Driven};
 
-// What the driver keeps beside the memory and the list: whether the text goes on, the line being read, the unit, how many words and places are lent.
+// What the driver keeps beside the memory and the list: whether the text goes on, the line being read, the unit, how many words and places are lent, the set that setups are given.
 struct Desk {
     going: bool,
     line: Line,
     unit: Mux,
     words: u32,
     places: u32,
+    codes: [bool; 128],
 }
 
 // The desk at the start of a session.
@@ -64,6 +68,7 @@ fn new_desk() -> Desk
         unit: no_mux(),
         words: 32768,
         places: 0,
+        codes: set_1974(),
     }
 }
 
@@ -94,6 +99,15 @@ fn with_places(d: Desk, places: u32) -> Desk
     e
 }
 
+// The desk with another set for setups.
+fn with_codes(d: Desk, codes: [bool; 128]) -> Desk
+    ensures { λ r. ⌜ r ≡ withCodes d codes ⌝ }
+{
+    let mut e = d;
+    e.codes = codes;
+    e
+}
+
 // The desk with the line as it is read so far.
 fn with_line(d: Desk, l: Line) -> Desk
     ensures { λ r. ⌜ r ≡ withLine d l ⌝ }
@@ -112,14 +126,15 @@ fn closed(d: Desk) -> Desk
     e
 }
 
-// Order 1: the setting that setup is asked for.
-fn setting_of(n: [u32; 5]) -> Setting
-    ensures { λ r. ⌜ r ≡ settingOf n ⌝ }
+// Order 1: the setting that setup is asked for, with the set that stands.
+fn setting_of(codes: [bool; 128], n: [u32; 5]) -> Setting
+    ensures { λ r. ⌜ r ≡ settingOf codes n ⌝ }
 {
     Setting {
         block: n[1],
         ports: n[2],
         base: n[3],
+        special: codes,
     }
 }
 
@@ -172,12 +187,12 @@ fn act_of(n: [u32; 5]) -> Act
     Act::Inspect
 }
 
-// Orders 1 to 14 as a call.
-fn call_of(n: [u32; 5]) -> Call
-    ensures { λ r. ⌜ r ≡ callOf n ⌝ }
+// Orders 1 to 14 as a call; the setting is order 1's.
+fn call_of(s: Setting, n: [u32; 5]) -> Call
+    ensures { λ r. ⌜ r ≡ callOf s n ⌝ }
 {
     if n[0] == 1 {
-        return setting_up(setting_of(n));
+        return setting_up(s);
     }
     if n[0] < 14 {
         return asking(What::Do { act: act_of(n) });
@@ -195,19 +210,19 @@ fn called_lent(d: Desk, mem: &mut [u16], list: &mut [u16], c: Call) -> Replied
 }
 
 // The record that setup gave back: of zeros, where it was refused.
-fn made(n: [u32; 5]) -> Mux
-    ensures { λ r. ⌜ r ≡ setup (settingOf n) .mux ⌝ }
+fn made(s: Setting) -> Mux
+    ensures { λ r. ⌜ r ≡ setup s .mux ⌝ }
 {
-    let r = setup(setting_of(n));
+    let r = setup(s);
     r.mux
 }
 
 // The unit after the order, of the one that the call left: a setup with take 1 is taken, refused or not.
-fn standing(u: Mux, n: [u32; 5]) -> Mux
-    ensures { λ r. ⌜ r ≡ standing u n ⌝ }
+fn standing(u: Mux, s: Setting, n: [u32; 5]) -> Mux
+    ensures { λ r. ⌜ r ≡ standing u s n ⌝ }
 {
     if n[0] == 1 && n[4] == 1 {
-        return made(n);
+        return made(s);
     }
     u
 }
@@ -222,17 +237,17 @@ fn answered(s: Said, a: Answer) -> Said
 }
 
 // The line up to the record: the opcode, the refusal number, and what orders 1, 10, 11, 13 and 14 have beside it.
-fn told(n: [u32; 5], r: Reply) -> Said
-    ensures { λ s. ⌜ s ≡ saying nothing (toldOf n r) ⌝ }
+fn told(s: Setting, n: [u32; 5], r: Reply) -> Said
+    ensures { λ t. ⌜ t ≡ saying nothing (toldOf s n r) ⌝ }
 {
-    let s = and(and(nothing(), n[0] as u64), r.code as u64);
+    let t = and(and(nothing(), n[0] as u64), r.code as u64);
     match n[0] {
-        1 => and(s, of_record(made(n))),
-        10 => and(s, r.value as u64),
-        11 => and(s, r.value as u64),
-        13 => answered(s, r.answer),
-        14 => and(and(s, r.made as u64), r.used as u64),
-        _ => s,
+        1 => and(t, of_record(made(s))),
+        10 => and(t, r.value as u64),
+        11 => and(t, r.value as u64),
+        13 => answered(t, r.answer),
+        14 => and(and(t, r.made as u64), r.used as u64),
+        _ => t,
     }
 }
 
@@ -258,23 +273,63 @@ fn looked(s: Said, n: [u32; 5], places: u32, mem: &[u16], list: &[u16]) -> Said
 }
 
 // The line of orders 1 to 14, of what the call left.
-fn unit_line(n: [u32; 5], r: Reply, u: Mux, places: u32, mem: &[u16], list: &[u16]) -> Said
-    ensures { λ s. ⌜ s ≡ saying nothing (unitSaid n r u places (now (mem .entry)) (now (list .entry))) ⌝ }
+fn unit_line(
+    s: Setting,
+    n: [u32; 5],
+    r: Reply,
+    u: Mux,
+    places: u32,
+    mem: &[u16],
+    list: &[u16],
+) -> Said
+    ensures { λ t. ⌜ t ≡ saying nothing (unitSaid s n r u places (now (mem .entry)) (now (list .entry))) ⌝ }
 {
-    looked(and(told(n, r), of_record(u)), n, places, mem, list)
+    looked(and(told(s, n, r), of_record(u)), n, places, mem, list)
 }
 
 // Orders 1 to 14: the call, which is printed.
 fn unit_order(d: Desk, n: [u32; 5], mem: &mut [u16], list: &mut [u16]) -> Desk
     ensures { λ r. ⌜ kept r (now (mem .exit)) (now (list .exit)) ≡ unitOrder (kept d (now (mem .entry)) (now (list .entry))) n ⌝ }
 {
-    let r = called_lent(d, mem, list, call_of(n));
-    let u = standing(r.mux, n);
-    print(unit_line(n, r.reply, u, d.places, mem, list));
+    let codes = d.codes;
+    let s = setting_of(codes, n);
+    let r = called_lent(d, mem, list, call_of(s, n));
+    let u = standing(r.mux, s, n);
+    print(unit_line(s, n, r.reply, u, d.places, mem, list));
     with_unit(d, u)
 }
 
-// Orders 22, 24 and 25: how many words are lent from now on, and pokes.
+// Order 28: a whole set.
+fn set_of(which: u32) -> [bool; 128]
+    ensures { λ r. ⌜ r ≡ setOf which ⌝ }
+{
+    if which == 0 {
+        return [false; 128];
+    }
+    if which == 1 {
+        return [true; 128];
+    }
+    set_1974()
+}
+
+// Orders 27 to 29: the set that setups are given from now on, and a poke of the unit's own.
+fn set_order(d: Desk, n: [u32; 5]) -> Desk
+    ensures { λ r. ⌜ r ≡ setOrder d n ⌝ }
+{
+    let codes = d.codes;
+    if n[0] == 27 {
+        return with_codes(d, with_code(codes, (n[1] % 256) as u8, n[2] != 0));
+    }
+    if n[0] == 28 {
+        return with_codes(d, set_of(n[1]));
+    }
+    if n[0] == 29 {
+        return with_unit(d, poked_special(d.unit, n[1], n[2]));
+    }
+    d
+}
+
+// Orders 22, 24 and 25: how many words are lent from now on, and pokes; else the set alone.
 fn desk_order(d: Desk, n: [u32; 5]) -> Desk
     ensures { λ r. ⌜ r ≡ deskOrder d n ⌝ }
 {
@@ -287,10 +342,10 @@ fn desk_order(d: Desk, n: [u32; 5]) -> Desk
     if n[0] == 25 {
         return with_unit(d, poked_port(d.unit, n[1], n[2], n[3]));
     }
-    d
+    set_order(d, n)
 }
 
-// Orders 20 to 25: what the host does.
+// Orders 20 to 25 and 27 to 29: what the host does.
 fn host_order(d: Desk, n: [u32; 5], mem: &mut [u16], list: &mut [u16]) -> Desk
     ensures { λ r. ⌜ kept r (now (mem .exit)) (now (list .exit)) ≡ hostOrder (kept d (now (mem .entry)) (now (list .entry))) n ⌝ }
 {

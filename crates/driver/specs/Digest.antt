@@ -1,10 +1,11 @@
 -- The digests of tests/second/FORMAT.md.
 --   taken                              a digest with one more number
 --   digest                             of words or places, in their order
---   portTaken, scalars, recordDigest   of the record
+--   codeTaken, portTaken, scalars, recordDigest   of the record
 --   windowDigest                       of the window on a control block
 -- Not here: the line that is read, in Text; folds taken step by step, in laws/Folds.
 -- Assumes nothing.
+use mathlib.Core.Bool.{Bool}
 use mathlib.Core.List.{List, [], _∷_, foldl}
 use Prim.Native.Nat.{ℕ, _+_, _*_, _/_, _%_}
 use lib.ListN.{getD}
@@ -20,6 +21,10 @@ taken h x = (h * 65599 + x) % 2147483647
 abbrev pub digest : List ℕ → ℕ
 digest xs = foldl taken 1 xs
 
+-- a digest with the set's word on a code: 1 where it is special
+abbrev pub codeTaken : ℕ → Bool → ℕ
+codeTaken h special = taken h (bit special)
+
 -- a digest with the nine numbers of a port, in the order of opcode 25
 unfoldable pub portTaken : ℕ → Port → ℕ
 portTaken h q =
@@ -27,14 +32,14 @@ portTaken h q =
     (bit (q .held) ∷ q .ch .byte ∷ bit (q .ch .parity) ∷ bit (q .ch .brk) ∷ bit (q .ch .overload) ∷ bit (q .empty) ∷
     q .control ∷ bit (q .devcontrol) ∷ bit (q .devstatus) ∷ [])
 
--- the eight numbers of the record before its ports, in the order of opcode 24
+-- the eight numbers of the record before its set and its ports, in the order of opcode 24
 abbrev pub scalars : Mux → List ℕ
 scalars u =
     u .setting .block ∷ u .setting .ports ∷ u .setting .base ∷ u .pos ∷ bit (u .runs) ∷ bit (u .clock) ∷ bit (u .irq .flag) ∷ u .irq .status ∷ []
 
--- the digest of the record: 1160 numbers
+-- the digest of the record: 1288 numbers
 unfoldable pub recordDigest : Mux → ℕ
-recordDigest u = foldl portTaken (digest (scalars u)) (u .port)
+recordDigest u = foldl portTaken (foldl codeTaken (digest (scalars u)) (u .setting .special)) (u .port)
 
 -- the digest of the eight words from look on and of the words that IBP and OBP point into
 unfoldable pub windowDigest : List ℕ → ℕ → ℕ

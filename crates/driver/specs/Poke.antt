@@ -1,7 +1,9 @@
--- Pokes: one field of the record (order 24), or one field of a port (order 25), by its number (tests/second/FORMAT.md).
+-- Pokes: one field of the record (order 24), or one field of a port (order 25), by its number, or the word of the record's set on a code (order 29)
+-- (tests/second/FORMAT.md).
 --   level                                  a number poked into a bool
 --   pokedSetting, pokedIrq, poked          order 24
 --   pokedCharacter, pokedField, pokedPort  order 25
+--   pokedSpecial                           order 29
 -- Not here: the order in which a digest takes the same fields, in Digest.
 -- Assumes nothing.
 use mathlib.Core.Bool.{Bool, not}
@@ -14,6 +16,7 @@ use Rattle.unit.specs.declared.mux.Character.{Character}
 use Rattle.unit.specs.declared.mux.Port.{Port}
 use Rattle.unit.specs.declared.mux.Mux.{Mux}
 use Rattle.unit.specs.Record.{portAt, withPort}
+use Rattle.words.specs.Special.{withCode}
 
 -- a number poked into a bool: 0 is false
 abbrev pub level : ℕ → Bool
@@ -22,8 +25,12 @@ level v = not (eqb v 0)
 -- order 24, the setting: 0 block, 1 ports, 2 base
 unfoldable pub pokedSetting : Setting → ℕ → ℕ → Setting
 pokedSetting s field v =
-    record
-    { block = pick (eqb field 0) v (s .block); ports = pick (eqb field 1) v (s .ports); base = pick (eqb field 2) v (s .base) }
+    record {
+      block = pick (eqb field 0) v (s .block);
+      ports = pick (eqb field 1) v (s .ports);
+      base = pick (eqb field 2) v (s .base);
+      special = s .special;
+    }
 
 -- order 24, the interrupt side: 6 interrupt flag, 7 status
 unfoldable pub pokedIrq : Irq → ℕ → ℕ → Irq
@@ -67,3 +74,16 @@ pokedField q field v =
 -- order 25, at a port: one of the 128, so a number above them counts on from 0 again
 unfoldable pub pokedPort : Mux → ℕ → ℕ → ℕ → Mux
 pokedPort u p field v = withPort u (p % 128) (pokedField (portAt u (p % 128)) field v)
+
+-- order 29: the set with the word v on the code, all else as it was
+unfoldable pub pokedSpecial : Mux → ℕ → ℕ → Mux
+pokedSpecial u code v =
+    let s = u .setting in
+    record {
+      setting = record { block = s .block; ports = s .ports; base = s .base; special = withCode (s .special) (code % 256) (level v) };
+      pos = u .pos;
+      runs = u .runs;
+      clock = u .clock;
+      irq = u .irq;
+      port = u .port;
+    }

@@ -7,7 +7,7 @@ ghost use mathlib.Core.List.{foldl};
 ghost use Prim.Native.Nat.{_<_};
 ghost use lib.ListN.{getD};
 ghost use Rattle.ground.specs.Choose.{bit, Below};
-ghost use Rattle.driver.specs.Digest.{taken, digest, portTaken, recordDigest, windowDigest};
+ghost use Rattle.driver.specs.Digest.{taken, digest, codeTaken, portTaken, recordDigest, windowDigest};
 
 // The digest h with one more number.
 pub fn taken(h: u64, x: u64) -> u64
@@ -36,6 +36,20 @@ pub fn of_words(words: &[u16]) -> u64
         i += 1;
     }
     h
+}
+
+// The digest h with the numbers of a set, one for each code.
+fn of_codes(h: u64, codes: [bool; 128]) -> u64
+    requires { ⌜ h < 2147483647 ⌝ }
+    ensures { λ r. ⌜ Below 2147483647 (foldl codeTaken h codes) r ⌝ }
+{
+    let mut d = h;
+    let mut i = 0;
+    while i < 128 {
+        d = taken(d, number(codes[i]));
+        i += 1;
+    }
+    d
 }
 
 // The digest h with the nine numbers of a port.
@@ -83,8 +97,9 @@ pub fn of_record(u: Mux) -> u64
     let h6 = taken(h5, number(u.clock));
     let h7 = taken(h6, number(q.flag));
     let h8 = taken(h7, q.status as u64);
+    let codes = s.special;
     let t = u.port;
-    of_ports(h8, t)
+    of_ports(of_codes(h8, codes), t)
 }
 
 // The word at an address, 0 past the end.

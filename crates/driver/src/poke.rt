@@ -1,4 +1,4 @@
-// Pokes (orders 24 and 25): one field of the record, or one field of a port, by its number.
+// Pokes (orders 24, 25 and 29): one field of the record, or one field of a port, by its number, or one code of the record's set.
 use interrupt::Irq;
 use unit::mux::Character;
 use unit::mux::Mux;
@@ -6,9 +6,10 @@ use unit::mux::Port;
 use unit::mux::Setting;
 use unit::mux::port_at;
 use unit::mux::with_port;
+use words::special::with_code;
 ghost use mathlib.Core.Path.{_≡_};
 ghost use Rattle.ground.specs.Choose.{pick};
-ghost use Rattle.driver.specs.Poke.{pokedSetting, pokedIrq, poked, pokedCharacter, pokedField, pokedPort};
+ghost use Rattle.driver.specs.Poke.{pokedSetting, pokedIrq, poked, pokedCharacter, pokedField, pokedPort, pokedSpecial};
 
 // A number of the setting or the position: the poked one where this is the field, else the old one.
 fn number_if(here: bool, new: u32, old: u32) -> u32
@@ -119,4 +120,17 @@ pub fn poked_port(u: Mux, p: u32, field: u32, value: u32) -> Mux
 {
     let at = p % 128;
     with_port(u, at, poked_field(port_at(u, at), field, value))
+}
+
+// The record with another word of its set on a code.
+pub fn poked_special(u: Mux, code: u32, value: u32) -> Mux
+    ensures { λ r. ⌜ r ≡ pokedSpecial u code value ⌝ }
+{
+    let mut s = u.setting;
+    let codes = s.special;
+    let poked = with_code(codes, (code % 256) as u8, value != 0);
+    s.special = poked;
+    let mut v = u;
+    v.setting = s;
+    v
 }

@@ -8,7 +8,7 @@ use Rattle.compared.proofs.call_of.Tie as tie
 
 returns : tie.Need-returns
 unfolding callOf pick
-returns c = rw (c .setting-up .ensures, c .before .setting-of .ensures, eq-eqb _ _ (c .before .before .if1 .taken))
+returns c = rw (c .setting-up .ensures, eq-eqb _ _ (c .before .if1 .taken))
 
 returns-2 : tie.Need-returns-2
 unfolding callOf pick
@@ -22,5 +22,5 @@ pub call-of-spec : {M : Type 1} → statement M
 call-of-spec =
     tie.close
     (tie.spec
-    (λ c. search needs) (λ c κs. search needs) (λ c κs. search needs) returns (λ c. search needs)
+    (λ c. search needs) (λ c κs. search needs) returns (λ c. search needs)
     (λ c κs. search needs) (λ c κs. search needs) returns-2 (λ c. search needs) (λ c κs. search needs) returns-3)

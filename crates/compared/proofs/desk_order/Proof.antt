@@ -20,7 +20,7 @@ returns-3 c = rw (c .with-unit2 .ensures, c .before .poked-port .ensures, ne-eqb
 
 returns-4 : tie.Need-returns-4
 unfolding deskOrder pick
-returns-4 c = rw (ne-eqb _ _ (c .before .before .if1 .left), ne-eqb _ _ (c .before .if2 .left), ne-eqb _ _ (c .if3 .left))
+returns-4 c = rw (c .set-order .ensures, ne-eqb _ _ (c .before .before .before .if1 .left), ne-eqb _ _ (c .before .before .if2 .left), ne-eqb _ _ (c .before .if3 .left))
 
 pub desk-order-spec : {M : Type 1} → statement M
 desk-order-spec =
@@ -29,4 +29,4 @@ desk-order-spec =
     (λ c. search needs) (λ c. search needs) (λ c κs. search needs) returns (λ c. search needs) (λ c. search needs)
     (λ c. search needs) (λ c κs. search needs) (λ c κs. search needs) returns-2 (λ c. search needs)
     (λ c. search needs) (λ c. search needs) (λ c. search needs) (λ c κs. search needs) (λ c κs. search needs)
-    returns-3 returns-4)
+    returns-3 (λ c κs. search needs) returns-4)

@@ -4,7 +4,7 @@ use Rattle.compared.proofs.made.Statement.{statement}
 use Rattle.compared.proofs.made.Tie as tie
 
 returns : tie.Need-returns
-returns c = rw (c .before .setup .ensures, c .before .before .setting-of .ensures)
+returns c = rw (c .before .setup .ensures)
 
 pub made-spec : {M : Type 1} → statement M
-made-spec = tie.close (tie.spec (λ c κs. search needs) (λ c κs. search needs) returns)
+made-spec = tie.close (tie.spec (λ c κs. search needs) returns)

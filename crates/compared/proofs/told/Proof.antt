@@ -29,7 +29,7 @@ returns-5 c = rw (c .and7 .ensures, c .before .before .and6 .ensures, c .before 
 
 returns-6 : tie.Need-returns-6
 unfolding besideOf pick
-returns-6 c = let op = getD (c .before .before .before .before .before .args .t1) 0 0 in rw (c .before .and2 .ensures, c .before .before .before .and .ensures, c .before .before .before .before .nothing .ensures, ne-eqb op 1 (c .match .rest .0 .0 .0 .0 .1), ne-eqb op 10 (c .match .rest .0 .0 .0 .1), ne-eqb op 11 (c .match .rest .0 .0 .1), ne-eqb op 13 (c .match .rest .0 .1), ne-eqb op 14 (c .match .rest .1))
+returns-6 c = let op = getD (c .before .before .before .before .before .args .t2) 0 0 in rw (c .before .and2 .ensures, c .before .before .before .and .ensures, c .before .before .before .before .nothing .ensures, ne-eqb op 1 (c .match .rest .0 .0 .0 .0 .1), ne-eqb op 10 (c .match .rest .0 .0 .0 .1), ne-eqb op 11 (c .match .rest .0 .0 .1), ne-eqb op 13 (c .match .rest .0 .1), ne-eqb op 14 (c .match .rest .1))
 
 pub told-spec : {M : Type 1} → statement M
 told-spec =

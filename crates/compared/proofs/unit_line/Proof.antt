@@ -12,7 +12,7 @@ returns : tie.Need-returns
 returns c =
     let a = c .before .before .before .before .before .before .args in
     rw (c .looked .ensures, c .before .and .ensures, c .before .before .of-record .ensures .is, c .before .before .before .told .ensures)
-    (sym (foldl-append and nothing (toldOf (a .n) (a .r)) (recordDigest (a .u) ∷ lookedOf (a .n) (a .places) (a .mem .now) (a .list .now))))
+    (sym (foldl-append and nothing (toldOf (a .s) (a .n) (a .r)) (recordDigest (a .u) ∷ lookedOf (a .n) (a .places) (a .mem .now) (a .list .now))))
 
 pub unit-line-spec : {M : Type 1} → statement M
 unit-line-spec =
