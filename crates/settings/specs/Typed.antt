@@ -12,6 +12,7 @@ use mathlib.Core.Bool.{Bool, true, false, not, _&&_, _||_}
 use Prim.Native.Nat.{ℕ, _+_, _%_}
 use lib.Dec.{eqb, ltb}
 use Rattle.ground.specs.Choose.{pick}
+use Rattle.words.specs.Special.{set1974}
 use Rattle.unit.specs.declared.mux.Setting.{Setting}
 use Rattle.driver.specs.Text.{isDigit, appended}
 use Rattle.settings.specs.declared.typed.Line.{Line}
@@ -76,6 +77,6 @@ started t = t .wrong || not (eqb (t .count) 0)
 abbrev pub whole : Line → Bool
 whole t = not (t .wrong) && eqb (t .count) 3
 
--- the setting that it asks for
+-- the setting that it asks for, with the 1974 set
 abbrev pub settingOf : Line → Setting
-settingOf t = record { block = t .block; ports = t .ports; base = t .base }
+settingOf t = record { block = t .block; ports = t .ports; base = t .base; special = set1974 }

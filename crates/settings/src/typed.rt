@@ -2,6 +2,7 @@
 use driver::read::appended;
 use driver::read::is_digit;
 use unit::mux::Setting;
+use words::special::set_1974;
 ghost use mathlib.Core.Path.{_≡_};
 ghost use Rattle.settings.specs.Typed.{blank, begun, extended, digitTyped, isSpace, spaced, typed, started, whole, settingOf};
 
@@ -108,7 +109,7 @@ pub fn whole(t: Line) -> bool
     !t.wrong & (t.count == 3)
 }
 
-// The setting that the line asks for.
+// The setting that the line asks for; its set is the 1974 set, for no refusal looks at a set.
 pub fn setting_of(t: Line) -> Setting
     ensures { λ r. ⌜ r ≡ settingOf t ⌝ }
 {
@@ -116,5 +117,6 @@ pub fn setting_of(t: Line) -> Setting
         block: t.block,
         ports: t.ports,
         base: t.base,
+        special: set_1974(),
     }
 }
