@@ -1,5 +1,5 @@
 -- The session to watch: its unit, what its host writes, and the record and the memory after each part of it.
---   three, placeOf            its unit; where a word of a port's control block lies
+--   three, placeOf            its unit, with a set of special codes; where a word of a port's control block lies
 --   seen                      what is seen of a block before an inspection
 --   withWord, controlWord     a word of a port's control block written; OCW for port control
 --   controlPut .. outputPut   what the host writes, in the session's order
@@ -10,10 +10,10 @@
 -- Not here: what one call does, in Calls of the crate calls; what is printed, which the stored output holds;
 -- what follows, in laws/.
 -- Assumes nothing.
-use mathlib.Core.Bool.{false}
+use mathlib.Core.Bool.{Bool, false}
 use mathlib.Core.List.{List}
 use Prim.Native.Nat.{ℕ, _+_, _%_}
-use lib.ListN.{getD, set}
+use lib.ListN.{getD, set, replicate}
 use Rattle.words.specs.Field.{put}
 use Rattle.words.specs.Codes.{atICW, atOCW, atIBP, atOBP, atLIB, atLOB, INMO, inEcho, ASCII, OUTMO, outAuto, outControl, DEVICE-CONTROL, CHARACTER}
 use Rattle.words.specs.Byte.{storeByte}
@@ -35,12 +35,12 @@ use Rattle.watch.specs.declared.say.Before.{Before}
 -- ---- the unit
 
 -- three ports with blocks of 8 words from word 64 on
-abbrev pub three : Setting
-three = record { block = 8; ports = 3; base = 64 }
+abbrev pub three : List Bool → Setting
+three codes = record { block = 8; ports = 3; base = 64; special = codes }
 
--- where word k of port p's control block lies
+-- where word k of port p's control block lies, whatever the set
 unfoldable pub placeOf : ℕ → ℕ → ℕ
-placeOf p k = blockAt three (p % 3) + k
+placeOf p k = blockAt (three (replicate 128 false)) (p % 3) + k
 
 -- what is seen of port p's block before an inspection
 abbrev pub seen : List ℕ → ℕ → Before
@@ -64,9 +64,9 @@ controlPut m = withWord 2 atOCW controlWord (withWord 1 atOCW controlWord (withW
 unfoldable pub inputAsked : List ℕ → List ℕ
 inputAsked m = withWord 0 atICW (put ASCII 1 (put INMO inEcho 0)) m
 
--- port 0: input from byte 2001 to byte 2005; port 1: single mode, which is 0
+-- port 0: input from byte 2001 to byte 2006; port 1: single mode, which is 0
 unfoldable pub inputPut : List ℕ → List ℕ
-inputPut m = withWord 1 atICW 0 (withWord 0 atLIB 2005 (withWord 0 atIBP 2000 (inputAsked m)))
+inputPut m = withWord 1 atICW 0 (withWord 0 atLIB 2006 (withWord 0 atIBP 2000 (inputAsked m)))
 
 -- bytes 3000 to 3004: aloha, as ASCII
 unfoldable pub greetingPut : List ℕ → List ℕ
@@ -106,25 +106,29 @@ keyed b w = rotated (typed 0 b w)
 unfoldable pub keyedThree : ℕ → ℕ → ℕ → World → World
 keyedThree a b c w = keyed c (keyed b (keyed a w))
 
--- a new unit of three ports on the memory
-unfoldable pub setUp : List ℕ → World
-setUp m = world (Calls.setUp noMux (setup three) .mux) m
+-- a new unit of three ports with that set, on the memory
+unfoldable pub setUp : List Bool → List ℕ → World
+setUp codes m = world (Calls.setUp noMux (setup (three codes)) .mux) m
 
 -- it runs
-unfoldable pub began : List ℕ → World
-began m = after (Processor Doc) (setUp m)
+unfoldable pub began : List Bool → List ℕ → World
+began codes m = after (Processor Doc) (setUp codes m)
 
 -- port control at each port, and then the control blocks of the session
 unfoldable pub prepared : World → World
 prepared w = wrote outputPut (wrote inputPut (rotated (wrote controlPut w)))
 
+-- both, on the memory
+unfoldable pub opened : List Bool → List ℕ → World
+opened codes m = prepared (began codes m)
+
 -- x typed at port 1; then p, u and the glottal stop, octal 174, keyed at port 0
 unfoldable pub firstHalf : World → World
 firstHalf w = keyedThree 112 117 0o174 (typed 1 120 w)
 
--- the whole session on the memory: after the first half the host asks for input again, and u, k and u are keyed
-unfoldable pub session : List ℕ → World
-session m = keyedThree 117 107 117 (wrote inputAsked (firstHalf (prepared (began m))))
+-- the whole session on the memory, at a unit with that set: after the first half the host asks for input again, and u, k and u are keyed
+unfoldable pub session : List Bool → List ℕ → World
+session codes m = keyedThree 117 107 117 (wrote inputAsked (firstHalf (opened codes m)))
 
 -- ---- the sweeps at the end
 

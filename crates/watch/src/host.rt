@@ -23,23 +23,24 @@ ghost use lib.ListN.{length, getD};
 ghost use Rattle.ground.specs.Choose.{Below};
 ghost use Rattle.watch.specs.Session.{three, placeOf, withWord, controlWord, controlPut, inputAsked, inputPut, greetingPut, outputPut};
 
-// The unit of the session: three ports with blocks of 8 words from word 64 on.
-pub fn three() -> Setting
-    ensures { λ r. ⌜ r ≡ three ⌝ }
+// The unit of the session: three ports with blocks of 8 words from word 64 on, and that set of special codes.
+pub fn three(codes: [bool; 128]) -> Setting
+    ensures { λ r. ⌜ r ≡ three codes ⌝ }
 {
     Setting {
         block: 8,
         ports: 3,
         base: 64,
+        special: codes,
     }
 }
 
-// Where word k of port p's control block lies. Nothing says here that p is below 3, so its remainder is taken.
+// Where word k of port p's control block lies, whatever the set. Nothing says here that p is below 3, so its remainder is taken.
 fn place_of(p: u32, k: usize) -> usize
     requires { ⌜ k < 8 ⌝ }
     ensures { λ r. ⌜ Below 32768 (placeOf p k) r ⌝ }
 {
-    block_at(three(), p % 3) + k
+    block_at(three([false; 128]), p % 3) + k
 }
 
 // A word of port p's control block.
@@ -88,14 +89,14 @@ pub fn ask_input(mem: &mut [u16])
     put_word(mem, 0, ICW, put(put(0, INMO, IN_ECHO), ASCII, 1));
 }
 
-// Port 0: input from byte 2001 to byte 2005. Port 1: single mode, which is 0.
+// Port 0: input from byte 2001 to byte 2006, as long as the name with its glottal stop. Port 1: single mode, which is 0.
 pub fn put_input(mem: &mut [u16])
     requires { ⌜ length (now mem) ≡ 32768 ⌝ }
     ensures { λ _. ⌜ now (mem .exit) ≡ inputPut (now (mem .entry)) ⌝ }
 {
     ask_input(mem);
     put_word(mem, 0, IBP, 2000);
-    put_word(mem, 0, LIB, 2005);
+    put_word(mem, 0, LIB, 2006);
     put_word(mem, 1, ICW, 0);
 }
 

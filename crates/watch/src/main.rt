@@ -1,4 +1,5 @@
-// A session that a person can watch: three ports, a word with a glottal stop typed at the first, and in plain words what each inspection does.
+// A session that a person can watch: three ports, a name with a glottal stop typed at the first, and in plain words what each inspection does; at a unit of the 1974 set of special codes, and at one
+// whose school chose to have the glottal stop ordinary.
 mod host;
 mod say;
 
@@ -7,14 +8,15 @@ use crate::host::put_control;
 use crate::host::put_input;
 use crate::host::put_output;
 use crate::host::three;
+use crate::host::word_of;
 use crate::say::say_bytes;
+use crate::say::say_icw;
 use crate::say::say_interrupt;
 use crate::say::say_number;
 use crate::say::say_octal;
 use crate::say::say_turn;
 use crate::say::seen;
 use calls::call::Act;
-use calls::call::Call;
 use calls::call::What;
 use calls::call::asking;
 use calls::call::setting_up;
@@ -25,6 +27,9 @@ use unit::mux::Mux;
 use unit::refusal::MOST_INSPECTIONS;
 use unit::reply::Replied;
 use unit::setup::no_mux;
+use words::codes::IBP;
+use words::special::dictionary_set;
+use words::special::set_1974;
 ghost use mathlib.Core.Path.{_≡_};
 ghost use Prim.Native.Nat.{_+_};
 ghost use lib.ListN.{length};
@@ -33,7 +38,7 @@ ghost use Rattle.unit.specs.Reply.{world, looked, outcome};
 ghost use Rattle.sweep.specs.Sweep.{sweep};
 ghost use Rattle.calls.specs.declared.call.Act.the-variants.{Line, Processor, Inspect};
 ghost use Rattle.calls.specs.Calls.{performed};
-ghost use Rattle.watch.specs.Session.{after, inputAsked, turned, rotated, typed, keyed, keyedThree, setUp, began, prepared, firstHalf, session, lent, afterSweep, afterSweeps};
+ghost use Rattle.watch.specs.Session.{after, inputAsked, turned, rotated, typed, keyed, keyedThree, setUp, began, prepared, opened, firstHalf, session, lent, afterSweep, afterSweeps};
 
 // One thing asked of the unit. Only a sweep has a list, so it is given none.
 fn asked(u: Mux, mem: &mut [u16], act: Act) -> Replied
@@ -67,11 +72,13 @@ fn watched(u: Mux, mem: &mut [u16]) -> Mux
     let before = seen(mem, u.pos);
     let r = asked(u, mem, Act::Inspect);
     let v = r.mux;
+    let s = v.setting;
+    let codes = s.special;
     let a = r.reply.answer;
     write_all(1, b"  port ");
     say_number(a.port as u64);
     write_all(1, b": ");
-    say_turn(a, mem, before);
+    say_turn(a, mem, before, codes);
     say_interrupt(a.raised, v.irq);
     write_all(1, b"\n");
     v
@@ -138,20 +145,20 @@ fn keyed_three(u: Mux, mem: &mut [u16], a: u8, b: u8, c: u8) -> Mux
     keyed(w, mem, c)
 }
 
-// A new unit of three ports; a setup has no list either.
-fn set_up(mem: &mut [u16]) -> Mux
-    ensures { λ r. ⌜ world r (now (mem .exit)) ≡ setUp (now (mem .entry)) ⌝ }
+// A new unit of three ports with that set; a setup has no list either.
+fn set_up(mem: &mut [u16], codes: [bool; 128]) -> Mux
+    ensures { λ r. ⌜ world r (now (mem .exit)) ≡ setUp codes (now (mem .entry)) ⌝ }
 {
     let mut none = [0u16; 1];
-    let r = door::call_by_value(no_mux(), mem, &mut none, setting_up(three()));
+    let r = door::call_by_value(no_mux(), mem, &mut none, setting_up(three(codes)));
     r.mux
 }
 
 // The unit at the start of the session: it runs.
-fn began(mem: &mut [u16]) -> Mux
-    ensures { λ r. ⌜ world r (now (mem .exit)) ≡ began (now (mem .entry)) ⌝ }
+fn began(mem: &mut [u16], codes: [bool; 128]) -> Mux
+    ensures { λ r. ⌜ world r (now (mem .exit)) ≡ began codes (now (mem .entry)) ⌝ }
 {
-    let u = set_up(mem);
+    let u = set_up(mem, codes);
     ordered(u, mem, Order::Doc)
 }
 
@@ -171,7 +178,16 @@ fn prepared(u: Mux, mem: &mut [u16]) -> Mux
     v
 }
 
-// The first half of the word pu'uku, its glottal stop keyed as octal 174, and x at port 1.
+// Both, at a unit with that set.
+fn opened(mem: &mut [u16], codes: [bool; 128]) -> Mux
+    requires { ⌜ length (now mem) ≡ 32768 ⌝ }
+    ensures { λ r. ⌜ world r (now (mem .exit)) ≡ opened codes (now (mem .entry)) ⌝ }
+{
+    let u = began(mem, codes);
+    prepared(u, mem)
+}
+
+// The first half of the name pu'uku, its glottal stop keyed as octal 174, and x at port 1.
 fn first_half(u: Mux, mem: &mut [u16]) -> Mux
     requires { ⌜ length (now mem) ≡ 32768 ⌝ }
     ensures { λ r. ⌜ world r (now (mem .exit)) ≡ firstHalf (world u (now (mem .entry))) ⌝ }
@@ -180,36 +196,32 @@ fn first_half(u: Mux, mem: &mut [u16]) -> Mux
     keyed_three(v, mem, b'p', b'u', 0o174)
 }
 
-// The host has seen the special, and asks for input again.
+// The host asks for input again, whatever it finds in ICW: where nothing was done there, it writes the word that stands.
 fn asked_again(mem: &mut [u16])
     requires { ⌜ length (now mem) ≡ 32768 ⌝ }
     ensures { λ _. ⌜ now (mem .exit) ≡ inputAsked (now (mem .entry)) ⌝ }
 {
-    write_all(
-        1,
-        b"the host takes the special from ICW, and asks for input again\n",
-    );
+    say_icw(mem);
     ask_input(mem);
 }
 
-// The whole session.
-fn session(mem: &mut [u16]) -> Mux
+// The whole session, at a unit with that set.
+fn session(mem: &mut [u16], codes: [bool; 128]) -> Mux
     requires { ⌜ length (now mem) ≡ 32768 ⌝ }
-    ensures { λ r. ⌜ world r (now (mem .exit)) ≡ session (now (mem .entry)) ⌝ }
+    ensures { λ r. ⌜ world r (now (mem .exit)) ≡ session codes (now (mem .entry)) ⌝ }
 {
-    let u = began(mem);
-    let v = prepared(u, mem);
-    let w = first_half(v, mem);
+    let u = opened(mem, codes);
+    let v = first_half(u, mem);
     asked_again(mem);
-    keyed_three(w, mem, b'u', b'k', b'u')
+    keyed_three(v, mem, b'u', b'k', b'u')
 }
 
-// The buffer of port 0 at the end.
+// The buffer of port 0 at the end, up to where IBP points.
 fn say_buffer(mem: &[u16])
     requires { ⌜ length (now mem) ≡ 32768 ⌝ }
 {
     write_all(1, b"buffer from byte 2001: ");
-    say_bytes(mem, 2001, 2006);
+    say_bytes(mem, 2000, word_of(mem, 0, IBP));
     write_all(1, b"\n");
 }
 
@@ -268,8 +280,15 @@ fn say_sweeps(u: Mux, mem: &mut [u16], list: &mut [u16])
 
 fn main() {
     let mut mem = [0u16; 32768];
+    let mut other = [0u16; 32768];
     let mut list = [0u16; 4096];
-    let u = session(&mut mem);
+    write_all(1, b"the 1974 set, in which octal 174 is special\n");
+    let u = session(&mut mem, set_1974());
+    write_all(1, b"\nthe same set, but for octal 174, which is ordinary\n");
+    session(&mut other, dictionary_set());
+    write_all(1, b"\noctal 174 special, ");
     say_buffer(&mem);
+    write_all(1, b"octal 174 ordinary, ");
+    say_buffer(&other);
     say_sweeps(u, &mut mem, &mut list);
 }

@@ -11,13 +11,14 @@ use words::byte::fetch;
 use words::codes::CHARACTER;
 use words::codes::IBP;
 use words::codes::ICW;
+use words::codes::INDONE;
 use words::codes::OCW;
 use words::codes::OUT_CONTROL;
 use words::codes::OUTDONE;
 use words::codes::OUTMO;
 use words::field::get;
 use words::field::is_set;
-use words::special::is_special;
+use words::special::special_in;
 ghost use mathlib.Core.Path.{_≡_};
 ghost use mathlib.Core.Bool.{not, _&&_};
 ghost use lib.Dec.{eqb};
@@ -48,14 +49,14 @@ fn say_character(b: u8) {
     write_all(1, b"'");
 }
 
-// The bytes from one byte pointer up to another.
-pub fn say_bytes(mem: &[u16], from: u16, end: u16)
+// The bytes after one byte pointer, up to another.
+pub fn say_bytes(mem: &[u16], before: u16, last: u16)
     requires { ⌜ length (now mem) ≡ 32768 ⌝ }
 {
-    let mut at = from;
-    while at < end {
-        say_bare(fetch(mem, at));
+    let mut at = before;
+    while at < last {
         at += 1;
+        say_bare(fetch(mem, at));
     }
 }
 
@@ -76,10 +77,10 @@ pub fn seen(mem: &[u16], p: u32) -> Before
     }
 }
 
-// The character that ICW holds.
-fn say_in_icw(icw: u16) {
+// The character that ICW holds, as the unit's set has it.
+fn say_in_icw(icw: u16, codes: [bool; 128]) {
     let b = get(icw, CHARACTER) as u8;
-    if is_special(b) {
+    if special_in(codes, b) {
         write_all(1, b"special ");
         say_octal(b);
     } else {
@@ -101,13 +102,13 @@ fn say_stored(mem: &[u16], ibp: u16, sent: bool)
 }
 
 // What an input turn did: the pointer stepped where a byte was stored, otherwise the character is in ICW.
-fn say_input(mem: &[u16], p: u32, before: Before, sent: bool)
+fn say_input(mem: &[u16], p: u32, before: Before, sent: bool, codes: [bool; 128])
     requires { ⌜ length (now mem) ≡ 32768 ⌝ }
 {
     let ibp = word_of(mem, p, IBP);
     write_all(1, b"input ");
     if ibp == before.ibp {
-        say_in_icw(word_of(mem, p, ICW));
+        say_in_icw(word_of(mem, p, ICW), codes);
         return;
     }
     say_stored(mem, ibp, sent);
@@ -143,12 +144,12 @@ fn say_output(a: Answer, ocw: u16) {
 }
 
 // What a service did.
-fn say_service(s: Service, a: Answer, mem: &[u16], before: Before)
+fn say_service(s: Service, a: Answer, mem: &[u16], before: Before, codes: [bool; 128])
     requires { ⌜ length (now mem) ≡ 32768 ⌝ }
 {
     match s {
         Service::Input => {
-            say_input(mem, a.port, before, a.sent);
+            say_input(mem, a.port, before, a.sent, codes);
         }
         Service::Output => {
             say_output(a, before.ocw);
@@ -157,7 +158,7 @@ fn say_service(s: Service, a: Answer, mem: &[u16], before: Before)
 }
 
 // What a turn served.
-pub fn say_turn(a: Answer, mem: &[u16], before: Before)
+pub fn say_turn(a: Answer, mem: &[u16], before: Before, codes: [bool; 128])
     requires { ⌜ length (now mem) ≡ 32768 ⌝ }
 {
     let t = a.turn;
@@ -169,9 +170,26 @@ pub fn say_turn(a: Answer, mem: &[u16], before: Before)
             write_all(1, b"still sending");
         }
         Turn::Served { service } => {
-            say_service(service, a, mem, before);
+            say_service(service, a, mem, before, codes);
         }
     }
+}
+
+// What the host finds in port 0's ICW in the middle of the name: a character that is done, or its own word.
+pub fn say_icw(mem: &[u16])
+    requires { ⌜ length (now mem) ≡ 32768 ⌝ }
+{
+    if is_set(word_of(mem, 0, ICW), INDONE) {
+        write_all(
+            1,
+            b"the host takes the special from ICW, and asks for input again\n",
+        );
+        return;
+    }
+    write_all(
+        1,
+        b"the host finds ICW as it wrote it, and asks for the same again\n",
+    );
 }
 
 // The interrupt, if any was raised.

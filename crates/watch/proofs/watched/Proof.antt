@@ -6,7 +6,7 @@ use Rattle.unit.specs.Reply.{Looked}
 use Rattle.watch.proofs.watched.Tie as tie
 
 returns : tie.Need-returns
-returns c = ap (λ (l : Looked). l .world) (c .before .before .before .before .before .before .before .before .before .before .before .before .before .before .before .asked .ensures)
+returns c = ap (λ (l : Looked). l .world) (c .before .before .before .before .before .before .before .before .before .before .before .before .before .before .before .before .before .asked .ensures)
 
 pub watched-spec : {M : Type 1} → statement M
 watched-spec =

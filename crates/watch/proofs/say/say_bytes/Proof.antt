@@ -7,14 +7,14 @@ use Rattle.watch.proofs.say.say_bytes.Statement.{statement}
 use Rattle.watch.proofs.say.say_bytes.Tie as tie
 
 abbrev Inv-loop : tie.InvT-loop
-Inv-loop mem from end at₀ at = length mem ≡ 32768
+Inv-loop mem before last at₀ at = length mem ≡ 32768
 
 abbrev μ-loop : tie.MeasureT-loop
-μ-loop mem from end at₀ at = end - at
+μ-loop mem before last at₀ at = last - at
 
 pub say-bytes-spec : {M : Type 1} → statement M
 say-bytes-spec =
     tie.close
     (tie.spec
-    Inv-loop μ-loop (λ c. search needs) (λ c κs. search needs) (λ c κs. search needs) (λ c. search needs)
+    Inv-loop μ-loop (λ c. search needs) (λ c. search needs) (λ c κs. search needs) (λ c κs. search needs)
     (λ c. search needs) (λ c. search needs) (λ c. search needs))
