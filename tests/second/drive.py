@@ -13,13 +13,15 @@ SETUP, ARRIVAL, TRANSMITTED, DEVICE_STATUS = 1, 2, 3, 4
 RESET, IOPLS, START, DOC, DOB, DIA, DIAS, TICK = range(5, 13)
 INSPECT, SWEEP = 13, 14
 WRITE, FILL, WORDS, PLACES, POKE, POKE_PORT, SPEED = range(20, 27)
+CODE, CODES, POKE_CODE = range(27, 30)
 DIGEST, END = 30, 31
 CALLS = range(SETUP, SWEEP + 1)
 PRINTED = (*CALLS, SPEED, DIGEST, END)            # the orders that print a line
 NAMES = {1: 'setup', 2: 'arrival', 3: 'transmitted', 4: 'device_status', 5: 'reset', 6: 'iopls',
          7: 'start', 8: 'doc', 9: 'dob', 10: 'dia', 11: 'dias', 12: 'tick', 13: 'inspect',
          14: 'sweep', 20: 'host write', 21: 'fill memory', 22: 'memory lent', 23: 'list lent',
-         24: 'poke', 25: 'poke port', 26: 'speed', 30: 'whole digest', 31: 'end of session'}
+         24: 'poke', 25: 'poke port', 26: 'speed', 27: 'code of the set', 28: 'whole set', 29: 'poke code',
+         30: 'whole digest', 31: 'end of session'}
 FIELDS = ('block', 'ports', 'base', 'pos', 'runs', 'clock', 'irq', 'status')
 PORT_FIELDS = mux2.Port._fields
 
@@ -33,10 +35,11 @@ def weights(count):
 
 
 MEMORY_WEIGHTS, MEMORY_START = weights(mux2.ROOM)
-RECORD_WEIGHTS, RECORD_START = weights(len(FIELDS) + len(PORT_FIELDS) * mux2.ARRAY)
-SCALAR_WEIGHTS = RECORD_WEIGHTS[:len(FIELDS)]
+FIRST_PORT = len(FIELDS) + mux2.CODES             # what stands before the ports: the scalars and the set
+RECORD_WEIGHTS, RECORD_START = weights(FIRST_PORT + len(PORT_FIELDS) * mux2.ARRAY)
+SCALAR_WEIGHTS, SET_WEIGHTS = RECORD_WEIGHTS[:len(FIELDS)], RECORD_WEIGHTS[len(FIELDS):FIRST_PORT]
 PORT_WEIGHTS = [RECORD_WEIGHTS[k:k + len(PORT_FIELDS)]
-                for k in range(len(FIELDS), len(RECORD_WEIGHTS), len(PORT_FIELDS))]
+                for k in range(FIRST_PORT, len(RECORD_WEIGHTS), len(PORT_FIELDS))]
 
 
 def digest(numbers):
@@ -83,10 +86,16 @@ class RecordDigest:
             self.ports = sum(self.parts)
         scalars = (record.block, record.ports, record.base, record.pos,
                    record.runs, record.clock, record.irq, record.status)
-        return (RECORD_START + self.ports
+        return (RECORD_START + set_part(record.codes) + self.ports
                 + sum(w * x for w, x in zip(SCALAR_WEIGHTS, scalars))) % MODULUS
 
     ports = 0
+
+
+@lru_cache(maxsize=1024)
+def set_part(codes):
+    """A set's part of the digest; sets are few and change seldom."""
+    return sum(w * yes for w, yes in zip(SET_WEIGHTS, codes))
 
 
 def numbers_of(port):
@@ -94,7 +103,7 @@ def numbers_of(port):
 
 
 class Driver:
-    """A second program and the digests of what it holds."""
+    """A second program, the digests of what it holds and the set that a setup is given."""
 
     def __init__(self, program=mux2.Mux2):
         self.program = program
@@ -103,6 +112,7 @@ class Driver:
     def new_session(self):
         self.mux = self.program(WatchedMemory())
         self.record_digest = RecordDigest()
+        self.codes = self.program.set_1974
 
     def drive(self, order):
         """Carries one order out; the line to print, or None."""
@@ -116,7 +126,7 @@ class Driver:
             return self.line(op, code, made, used, self.record(), self.window(rest[1]),
                              digest(mux.places[:mux.lent_places]))
         if op == SETUP:
-            code, made = mux.setup(*rest[:3])
+            code, made = mux.setup(*rest[:3], self.codes)
             if code == 0 or rest[3]:
                 mux.record = made
             return self.line(op, code, RecordDigest().of(made), self.record())
@@ -142,6 +152,12 @@ class Driver:
             mux.change(p, **{name: mux2.BYTE_BITS[value] if name == 'control' else value})
         elif op == SPEED:
             return self.line(op, mux.speed(rest[0]))
+        elif op == CODE:
+            self.codes = mux2.with_code(self.codes, *rest)
+        elif op == CODES:
+            self.codes = (mux2.NO_CODE, mux2.EVERY_CODE, self.program.set_1974)[rest[0]]
+        elif op == POKE_CODE:
+            mux.record.codes = mux2.with_code(mux.record.codes, *rest)
         elif op in (DIGEST, END):
             line = self.line(op, memory.digest(), digest(mux.places))
             if op == END:

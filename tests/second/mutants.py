@@ -1,8 +1,9 @@
 """Wrong second programs, each with one error, that the fixed sessions must tell from the right one.
 
-A mutant is mux2.py with one piece of its text replaced. The test fails if a
+A mutant is mux2.py with one piece of its text replaced, seldom more. The test fails if a
 mutant prints every line of the fixed set as mux2 does. Those marked `seen` are the
-errors that document 01 has seen other emulators make.
+errors that document 01 has seen other emulators make. Those of K5 must be told apart
+by the session of the sets, the others by the other sessions.
 
     mutants.py [--quiet]
 """
@@ -62,6 +63,49 @@ WRONG_ENDS = {
 def of(pointer, end, rule):
     """A rule of `pointer` and `end`, written for the names that a service has for them."""
     return '(' + rule.replace('pointer', pointer).replace('end', end) + ')'
+
+
+# What asks a set (02, K5): the one method, and input and output, which call it; where setup takes the set.
+ASKS, INPUT_ASKS, OUTPUT_ASKS = (
+    "self.record.codes[low_seven(character)] == 1", "ascii7 and self.special(character)", "self.special(BYTE_BITS[byte])")
+TAKES = "made.codes = tuple(codes)"
+
+# Wrong answers of a set `said` about a character `code` of eight bits, each put in for input alone and for output alone.
+WRONG_SETS = {
+    'the 1974 set': "special_1974(code % 128)",
+    "the dictionary's set": "DICTIONARY[code % 128] == 1",
+    'the 1974 set beside it': "said[code % 128] == 1 or special_1974(code % 128)",
+    'the 1974 set against it': "said[code % 128] == 1 and special_1974(code % 128)",
+    'the 1974 set where no code is special': "(said if 1 in said else SET_1974)[code % 128] == 1",
+    'the 1974 set where every code is special': "(said if 0 in said else SET_1974)[code % 128] == 1",
+    'the word of the next code': "said[(code + 1) % 128] == 1",
+    'the word of the code before': "said[(code - 1) % 128] == 1",
+    'the last word for the first': "said[code % 128 - (code % 128 == 0)] == 1",
+    'the words from the last to the first': "said[127 - code % 128] == 1",
+    'a code read backwards': "said[int(format(code % 128, '07b')[::-1], 2)] == 1",
+    'six bits of the code': "said[code % 64] == 1",
+    'letters of one case': "said[code % 128 - 32 * (code % 128 > 95)] == 1",
+    'all eight bits, ordinary past the set': "code < 128 and said[code] == 1",
+    'all eight bits, special past the set': "code > 127 or said[code] == 1",
+    'all eight bits, the 1974 set past the set': "(said + SET_1974)[code] == 1",
+    'all eight bits held to the last code': "said[min(code, 127)] == 1",
+    'all eight bits folded': "said[code // 2] == 1",
+    'the byte with its top bit 1, ordinary past the set': "(said + NO_CODE)[code % 128 + 128] == 1",
+    'the byte with its top bit 1, special past the set': "(said + EVERY_CODE)[code % 128 + 128] == 1",
+    'the byte with its top bit 1, held to the last code': "said[min(code % 128 + 128, 127)] == 1",
+    'the byte with its top bit 1, folded': "said[(code % 128 + 128) // 2] == 1",
+    'yes and no exchanged': "said[code % 128] == 0",
+    'yes for more than half of the codes': "sum(said) > 64",
+    **{f'no for yes and yes for no of {code}': f"said[code % 128] != (code % 128 == {code})"
+       for code in (0, 27, 31, 32, 64, 65, 123, 124, 125, 126, 127)},
+    **{f'no for yes and yes for no of {code}, top bit 1': f"said[code % 128] != (code == {code})"
+       for code in (128, 160, 193, 252, 255)},
+}
+
+
+def said(code, wrong):
+    """A wrong answer about `code`, written for the name that a service has for the character's byte."""
+    return '(' + wrong.replace('code', code).replace('said', 'self.record.codes') + ')'
 
 
 MUTANTS = [
@@ -242,7 +286,7 @@ MUTANTS = [
      "self.record.base + (p + 1) % self.record.ports * self.record.block"),
     ('pointer sticks at 65535',
      "65535 to 0')\n            return 0", "65535 to 0')\n            return 65535"),
-    ('special looks at eight bits', "BYTE_OF[(0,) + character[1:]]", "BYTE_OF[character]"),
+    ('special looks at eight bits', ASKS, "(self.record.codes + NO_CODE)[BYTE_OF[character]] == 1"),
     ('124 is ordinary', "low > 0o173", "low > 0o174"),
     ('123 is special', "low > 0o173", "low >= 0o173"),
     ('32 is special', "low < 0o40", "low <= 0o40"),
@@ -254,9 +298,9 @@ MUTANTS = [
     ('at sign is special', "return low < 0o40", "return low == 0o100 or low < 0o40"),
     ('special and ordinary exchanged',
      "return low < 0o40 or low > 0o173", "return not (low < 0o40 or low > 0o173)"),
-    ('input looks at eight bits', "ascii7 and self.special(character)",
+    ('input looks at eight bits', INPUT_ASKS,
      "ascii7 and (BYTE_OF[character] < 0o40 or BYTE_OF[character] > 0o173)"),
-    ('output looks at eight bits', "self.special(BYTE_BITS[byte])", "(byte < 0o40 or byte > 0o173)"),
+    ('output looks at eight bits', OUTPUT_ASKS, "(byte < 0o40 or byte > 0o173)"),
 
     # Input.
     ('parity and overload codes exchanged',
@@ -410,13 +454,147 @@ MUTANTS = [
     ('speeds 1200 and 2400 exchanged', "1200, 2400", "2400, 1200"),
 ]
 
+# Where each call and service changes the record, so that it may lose the set there as well.
+CHANGES = {
+    'arrival': "        self.change(p, held=1, byte=",
+    'transmitter empty': "        self.change(p, empty=1)\n",
+    'Device Status': "        self.change(p, line=level)\n",
+    'reset': "        r.runs = r.clock = r.irq = r.status = r.pos = 0\n",
+    'IOPLS': "            self.record.clock = 1\n",
+    'START': "        self.record.irq = self.record.status = 0\n",
+    'DOC': "            self.record.runs = 1\n",
+    'DOB': "            self.record.runs = 0\n",
+    'tick': "            self.record.irq = 1\n",
+    'inspection': "        p = r.pos\n",
+    'input': "        self.change(p, held=0, byte=0,",
+    'output': "        ocw[5] = ocw[4]\n",
+    'port control': "            self.change(p, level=ocw[3], control=",
+    'interrupt': "        status[11:16] = [0] * 5\n",
+    'sweep': "        made = used = 0\n",
+}
+SETUP_ASKS = "        code = self.setup_refusal(b, ports, base)\n"
+MADE = "        made = Record()\n"
+UNSOUND = "if r.pos >= r.ports:"
+STORES = "            memory.put_byte(pointer, BYTE_OF[stored])\n"
+RULES_4_5 = (
+    "        elif code != NONE:\n            self.hit('input 4: error')\n            done = True\n"
+    "        elif ascii7 and self.special(character):\n            self.hit('input 5: special')\n")
 
-def program(old, new):
-    """The second program with one piece of its text replaced."""
-    if SOURCE.count(old) != 1:
-        raise ValueError(f'found {SOURCE.count(old)} times, not once: {old!r}')
+# Of the special codes that a school chooses (02, K5).
+SET_MUTANTS = [
+    *[(f'input asks {name}', INPUT_ASKS, 'ascii7 and ' + said('BYTE_OF[character]', wrong))
+      for name, wrong in WRONG_SETS.items()],
+    *[(f'output asks {name}', OUTPUT_ASKS, said('byte', wrong)) for name, wrong in WRONG_SETS.items()],
+    ('both ask all eight bits, special past the set', ASKS, "(self.record.codes + EVERY_CODE)[BYTE_OF[character]] == 1"),
+    ('both ask all eight bits folded', ASKS, "self.record.codes[BYTE_OF[character] // 2] == 1"),
+    ('both ask the 1974 set', ASKS, "special_1974(low_seven(character))"),
+    ('both ask yes and no exchanged', ASKS, ASKS.replace("1", "0")),
+    ('input asks before the cut', CHANGES['arrival'],
+     "        self.uncut = {**getattr(self, 'uncut', {}), p: BYTE_BITS[byte]}\n" + CHANGES['arrival'],
+     INPUT_ASKS, "ascii7 and self.special(self.uncut[p])"),
+    ('input asks when the character arrives', CHANGES['arrival'],
+     "        self.told = {**getattr(self, 'told', {}), p: self.special(kept)}\n" + CHANGES['arrival'],
+     INPUT_ASKS, "ascii7 and self.told[p]"),
+    ('output asks for the byte cut to the length', OUTPUT_ASKS,
+     "self.special(BYTE_BITS[byte % 2 ** (5 + 2 * port.control[2] + port.control[3])])"),
+    ('output asks for the byte of the pointer as it was', OUTPUT_ASKS, "self.special(BYTE_BITS[memory.byte(obp)])"),
+
+    # Setup and the record.
+    *[(f'setup gives {name}', TAKES, f"made.codes = {wrong}") for name, wrong in (
+        ('the 1974 set', "SET_1974"), ("the dictionary's set", "DICTIONARY"), ('no special code', "NO_CODE"),
+        ('special codes alone', "EVERY_CODE"), ('the set that the unit has', "self.record.codes"),
+        ('the set turned round', "tuple(codes)[::-1]"), ('the set moved by one', "tuple(codes)[1:] + tuple(codes)[:1]"),
+        ('the set without its last code', "tuple(codes)[:-1] + (0,)"), ('the set without code 0', "(0,) + tuple(codes)[1:]"),
+        ('yes and no exchanged', "tuple(1 - yes for yes in codes)"),
+        ('the 1974 set for no special code', "tuple(codes) if 1 in codes else SET_1974"),
+        ('the 1974 set for special codes alone', "tuple(codes) if 0 in codes else SET_1974"),
+        ('the 1974 set beside the other', "tuple(map(max, codes, SET_1974))"),
+        ('the 1974 set in blocks of 32', "SET_1974 if b == 32 else tuple(codes)"),
+        ('the 1974 set where it has more ports than one', "SET_1974 if ports > 1 else tuple(codes)"))],
+    ('refused setup keeps the set', MADE, MADE + "        made.codes = tuple(codes)\n"),
+    ('refused setup gives the set of the unit', MADE, MADE + "        made.codes = self.record.codes\n"),
+    ('refused setup gives the 1974 set', "self.codes = NO_CODE ", "self.codes = SET_1974 "),
+    ('refused setup gives special codes alone', "self.codes = NO_CODE ", "self.codes = EVERY_CODE "),
+    ('refused setup changes the set of the unit', SETUP_ASKS,
+     SETUP_ASKS + "        self.record.codes = tuple(codes) if code else self.record.codes\n"),
+    ('refused setup changes what is asked', SETUP_ASKS,
+     SETUP_ASKS + "        self.given = tuple(codes) if code else None\n",
+     ASKS, "(getattr(self, 'given', None) or self.record.codes)[low_seven(character)] == 1"),
+    ('set kept from setup, whatever the record has since', TAKES, TAKES + "\n            self.given = made.codes",
+     ASKS, "getattr(self, 'given', self.record.codes)[low_seven(character)] == 1"),
+    ('one set for every record', TAKES, "Record.codes = tuple(codes)",
+     "        self.codes = NO_CODE ", "        pass ", "class Record:\n", "class Record:\n    codes = NO_CODE\n"),
+    ('set without a special code refused', SETUP_ASKS, SETUP_ASKS + "        code = code or (0 if 1 in codes else 4)\n"),
+    ('set of special codes alone refused', SETUP_ASKS, SETUP_ASKS + "        code = code or (0 if 0 in codes else 4)\n"),
+    ('set with an ordinary return refused', SETUP_ASKS, SETUP_ASKS + "        code = code or (0 if codes[13] else 4)\n"),
+    ('set with a special letter refused', SETUP_ASKS, SETUP_ASKS + "        code = code or (4 if codes[65] else 0)\n"),
+    ('record without a special code unsound', UNSOUND, "if r.pos >= r.ports or 1 not in r.codes:"),
+    ('record of special codes alone unsound', UNSOUND, "if r.pos >= r.ports or 0 not in r.codes:"),
+    ('record with an ordinary glottal stop unsound', UNSOUND, "if r.pos >= r.ports or r.codes[0o174] == 0:"),
+    ('record with a special letter unsound', UNSOUND, "if r.pos >= r.ports or r.codes[0o101]:"),
+    *[(f'{call} {loses}', change, f"{change[:len(change) - len(change.lstrip())]}self.record.codes = {wrong}\n{change}")
+      for call, change in CHANGES.items() for loses, wrong in (
+          ('puts the 1974 set back', "SET_1974"), ('clears the set', "NO_CODE"))],
+
+    # What follows from an answer.
+    ('special asked before an error, and hides it', RULES_4_5,
+     "        elif ascii7 and self.special(character):\n            code, done = NONE, True\n"
+     "        elif code != NONE:\n            self.hit('input 4: error')\n            done = True\n"
+     "        elif False:\n"),
+    ('ordinary code stored with its error', "elif code != NONE:",
+     "elif code != NONE and (not ascii7 or self.special(character)):"),
+    ('ordinary code unlike 1974 stored with its error', "elif code != NONE:",
+     "elif code != NONE and (not ascii7 or self.special(character) or not special_1974(low_seven(character))):"),
+    ('another set asked outside 7-bit ASCII', INPUT_ASKS,
+     "(ascii7 or self.record.codes != SET_1974) and self.special(character)"),
+    ('special by another set alone, asked outside 7-bit ASCII', INPUT_ASKS,
+     "(ascii7 or not special_1974(low_seven(character))) and self.special(character)"),
+    ('another set not asked on input', INPUT_ASKS, "ascii7 and self.record.codes == SET_1974 and self.special(character)"),
+    ('special request ignored with another set', "(asks_special == 1 and special)",
+     "(asks_special == 1 and special and self.record.codes == SET_1974)"),
+    ('special request not needed with another set', "(asks_special == 1 and special)",
+     "(special and (asks_special == 1 or self.record.codes != SET_1974))"),
+    ('special request turned round where special unlike 1974', "(asks_special == 1 and special)",
+     "(special and asks_special == int(special_1974(byte % 128)))"),
+    ('seen: ordinary unlike 1974 stored and reported as well', "done = last = self.ends(ibp, lib)",
+     "last = self.ends(ibp, lib)\n"
+     "            done = last or (ascii7 and special_1974(low_seven(character)))"),
+    ('seen: special unlike 1974 stored and reported as well', "            self.hit('input 5: special')\n",
+     "            if not special_1974(low_seven(character)):\n                memory.put(block + 4, self.step(ibp))\n"
+     "                memory.put_byte(self.step(ibp), BYTE_OF[stored])\n"),
+    ('special unlike 1974 echoed', "            self.hit('input 5: special')\n",
+     "            if not special_1974(low_seven(character)) and mode == [1, 1] and port.empty:\n"
+     "                sent, byte = 1, BYTE_OF[character]\n                self.change(p, empty=0)\n"),
+    ('ordinary unlike 1974 not echoed', "            if mode == [1, 1]:\n",
+     "            if mode == [1, 1] and not (ascii7 and special_1974(low_seven(character))):\n"),
+    ('glottal stop stored twice', STORES,
+     STORES + "            if ascii7 and low_seven(character) == GLOTTAL_STOP and not self.ends(ibp, lib):\n"
+     "                pointer = self.step(pointer)\n                memory.put(block + 4, pointer)\n    " + STORES),
+    ('glottal stop stored with its top bit 0', STORES,
+     STORES.replace("stored]", "stored if low_seven(character) != GLOTTAL_STOP else character]")),
+    ('glottal stop stored as a space', STORES,
+     STORES.replace("BYTE_OF[stored]", "0o240 if ascii7 and low_seven(character) == GLOTTAL_STOP else BYTE_OF[stored]")),
+    ('glottal stop that fills the buffer not reported', "done = last = self.ends(ibp, lib)",
+     "last = self.ends(ibp, lib)\n"
+     "            done = last and not (ascii7 and low_seven(character) == GLOTTAL_STOP)"),
+    ('glottal stop that finds the transmitter busy not reported', "echo_mark, done = 1, True",
+     "echo_mark, done = 1, last or not ascii7 or low_seven(character) != GLOTTAL_STOP"),
+    ('glottal stop that finds the transmitter busy not marked', "echo_mark, done = 1, True",
+     "echo_mark, done = int(not ascii7 or low_seven(character) != GLOTTAL_STOP), True"),
+    ('glottal stop not sent where it is ordinary', "            self.note_fetch(block,",
+     "            sent = int(special or byte % 128 != GLOTTAL_STOP)\n            self.note_fetch(block,"),
+]
+
+
+def program(*texts):
+    """The second program with each piece of its text in `texts` replaced by the one that follows it."""
+    source = SOURCE
+    for old, new in zip(texts[::2], texts[1::2]):
+        if SOURCE.count(old) != 1:
+            raise ValueError(f'found {SOURCE.count(old)} times, not once: {old!r}')
+        source = source.replace(old, new)
     module = types.ModuleType('mutant')
-    exec(compile(SOURCE.replace(old, new), 'mutant', 'exec'), module.__dict__)
+    exec(compile(source, 'mutant', 'exec'), module.__dict__)
     return module.Mux2
 
 
@@ -435,11 +613,13 @@ def first_difference(mutant, author):
 
 def main():
     began = time.time()
-    alive = {name: program(old, new) for name, old, new in MUTANTS}
-    if len(alive) < len(MUTANTS):
+    alive = {name: program(*texts) for name, *texts in MUTANTS + SET_MUTANTS}
+    of_sets = {name for name, *_ in SET_MUTANTS}
+    count = len(MUTANTS) + len(SET_MUTANTS)
+    if len(alive) < count:
         sys.exit('two mutants have one name')
     for number, (author, _) in enumerate(sessions.fixed_set(), 1):
-        for name in list(alive):
+        for name in [name for name in alive if (name in of_sets) == (author.kind == 'sets')]:
             call = first_difference(alive[name], author)
             if call is not None:
                 del alive[name]
@@ -447,8 +627,7 @@ def main():
                     print(f'session {number:3}, call {call:4} ({author.kind}): {name}', flush=True)
         if not alive:
             break
-    print(f'{len(MUTANTS) - len(alive)} of {len(MUTANTS)} mutants told apart; '
-          f'{time.time() - began:.1f} s')
+    print(f'{count - len(alive)} of {count} mutants told apart; {time.time() - began:.1f} s')
     for name in alive:
         print(f'survives: {name}')
     sys.exit(1 if alive else 0)

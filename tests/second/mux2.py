@@ -1,6 +1,6 @@
 """A second EDS-8, for comparison with the proved one.
 
-Written from document 01, requests K1, K2 and K10 of document 02 (K4 asks nothing of it), the 1974 manual
+Written from document 01, requests K1, K2, K5 and K10 of document 02 (K4 asks nothing of it), the 1974 manual
 (001) and the readings of docs/DECISIONS.md, without sight of the definitions or the code. It takes
 another road than the proved program: a word is a list of sixteen 0s and 1s indexed by the
 manual's bit numbers, a port is an immutable object, and memory is a bytearray
@@ -14,6 +14,7 @@ WORDS = 32768                   # the host's memory, in words
 ROOM = 40000                    # words kept here, so that other lengths can be lent
 PLACES = 4200                   # places kept for a sweep's list
 ARRAY = 128                     # places in the record's array of ports
+CODES = 128                     # the seven-bit codes
 
 NOTHING, IDLE, INPUT, OUTPUT = range(4)                 # what a turn may be
 Answer = namedtuple('Answer', 'turn port sent byte raised')
@@ -42,12 +43,39 @@ ZERO_PORT = Port(0, 0, 0, 0, 0, 0, BYTE_BITS[0], 0, 0)
 FRESH_PORT = ZERO_PORT._replace(empty=1, level=1)
 
 
+def set_of(special):
+    """The set of special codes (02, K5) that has these: a 1 for each special code and a 0 for each ordinary one, in order."""
+    return tuple(int(code in special) for code in range(CODES))
+
+
+def with_code(codes, code, yes):
+    """A set with this word on this code and every other as it was."""
+    return codes[:code] + (yes,) + codes[code + 1:]
+
+
+def special_1974(low):
+    """Document 01's rule: below octal 40 or above octal 173."""
+    return low < 0o40 or low > 0o173
+
+
+def low_seven(character):
+    """The code that a set is asked about: the character's low seven bits."""
+    return BYTE_OF[(0,) + character[1:]]
+
+
+GLOTTAL_STOP = 0o174                                    # as the dictionary writes it
+SET_1974 = set_of([low for low in range(CODES) if special_1974(low)])
+DICTIONARY = with_code(SET_1974, GLOTTAL_STOP, 0)
+EVERY_CODE, NO_CODE = set_of(range(CODES)), set_of(())
+
+
 class Record:
     """What the unit remembers; as made here, the record of zeros."""
 
     def __init__(self):
         self.block = self.ports = self.base = self.pos = 0
         self.runs = self.clock = self.irq = self.status = 0
+        self.codes = NO_CODE            # the set of special codes
         self.port = [ZERO_PORT] * ARRAY
 
 
@@ -97,6 +125,16 @@ ENDS = ('end reached exactly', 'last place of memory: 65534, end 65535',
         'done from 65535 to 0, end 65535', 'done from 65535 to 0, end 0', 'done from 65535 to 0, end between',
         'done, end 0')
 
+# The sets that a setup may be given (02, K5).
+SETS = {SET_1974: 'the 1974 set', DICTIONARY: "the dictionary's set", EVERY_CODE: 'every code special',
+        NO_CODE: 'no code special'}
+ANOTHER = 'another set'
+
+# What a set may say, for input in 7-bit ASCII mode and for output with the special request each, and of which code.
+SAID = ('input 5: special', 'input 6: ordinary in 7-bit ASCII',
+        'output 01: special, asked for', 'output 01: ordinary, special asked for')
+SAID_OF = ('unlike 1974', 'glottal stop', 'top bit 1')
+
 BRANCHES = (
     [f'{call} refused {code}' for call, codes in REFUSALS.items() for code in codes]
     + [f'{call} accepted' for call in REFUSALS]
@@ -142,11 +180,19 @@ BRANCHES = (
        'sweep: stopped unit', 'sweep of none', 'sweep: stops on an interrupt', 'sweep: all made',
        'sweep: interrupt at the last one', 'sweep of 4096', 'sweep: byte listed', 'sweep: no byte']
     + [f'{rule}: {where}' for rule in ('input 6', 'output 01') for where in ENDS]
+    + [f'setup {verdict} with {name}' for verdict in ('accepted', 'refused') for name in (*SETS.values(), ANOTHER)]
+    + [f'{said}, {which}' for said in SAID for which in SAID_OF]
+    + [f'input 6: glottal stop in 7-bit ASCII, {what}' for what in (
+        'not reported', 'fills the buffer', 'echoed', 'transmitter busy')]
+    + ['reset keeps the 1974 set', 'reset keeps another set', 'input 6: five bits in 7-bit ASCII',
+       'output 01: ordinary, special asked for', 'output 01: glottal stop passes the special request']
     + [f'speed {code:03b}' for code in range(8)])
 
 
 class Mux2:
     """The unit, the host's memory and the list, with one method for each call."""
+
+    set_1974 = SET_1974                 # for a driver, which hands a set over at each setup
 
     def __init__(self, memory=None):
         self.record = Record()
@@ -203,17 +249,24 @@ class Mux2:
 
     # Setup gives a new record and leaves the old one.
 
-    def setup(self, b, ports, base):
+    def setup(self, b, ports, base, codes=SET_1974):
+        """A new unit with this set of special codes; no set is refused (02, K5)."""
         code = self.setup_refusal(b, ports, base)
         self.hit(f'setup refused {code}' if code else 'setup accepted')
+        self.note_set(code, tuple(codes))
         if base > 32767:
             self.note_high_base(code, b, ports, base)
         self.note_area(code, b, base + ports * b)
         made = Record()
         if code == 0:
             made.block, made.ports, made.base = b, ports, base
+            made.codes = tuple(codes)
             made.port = [FRESH_PORT] * ARRAY
         return code, made
+
+    def note_set(self, code, codes):
+        """Counts the sets that setups are given; changes nothing."""
+        self.hit(f'setup {"refused" if code else "accepted"} with {SETS.get(codes, ANOTHER)}')
 
     def note_high_base(self, code, b, ports, base):
         """Counts what stood beside a base that is too high; changes nothing."""
@@ -278,6 +331,7 @@ class Mux2:
         if code:
             return code
         r = self.record
+        self.hit('reset keeps the 1974 set' if r.codes == SET_1974 else 'reset keeps another set')
         r.runs = r.clock = r.irq = r.status = r.pos = 0
         for p in range(ARRAY):
             port = r.port[p]
@@ -406,9 +460,19 @@ class Mux2:
             self.hit(f'{rule}: done, end 0')
 
     def special(self, character):
-        """Whether the low seven bits are below octal 40 or above octal 173."""
-        low = BYTE_OF[(0,) + character[1:]]
-        return low < 0o40 or low > 0o173
+        """What the record's set says of the character's low seven bits (02, K5), for input and output alike."""
+        return self.record.codes[low_seven(character)] == 1
+
+    def note_said(self, said, special, character):
+        """Counts what a set said: of a code that it takes otherwise than the 1974 set, of the glottal stop, of a character
+        with its top bit 1; changes nothing."""
+        low = low_seven(character)
+        if special != special_1974(low):
+            self.hit(f'{said}, unlike 1974')
+        if low == GLOTTAL_STOP:
+            self.hit(f'{said}, glottal stop')
+        if character[0]:
+            self.hit(f'{said}, top bit 1')
 
     def error_code(self, port):
         if port.overload:
@@ -452,6 +516,7 @@ class Mux2:
             done = True
         elif ascii7 and self.special(character):
             self.hit('input 5: special')
+            self.note_said('input 5: special', True, character)
             done = True
         else:
             self.hit('input 6: stored')
@@ -466,6 +531,8 @@ class Mux2:
                 else:
                     echo_mark, done = 1, True
             self.note_store(block, pointer, last, mode, port, done, ascii7, character)
+            if ascii7:
+                self.note_ascii(last, mode, port, done, character)
             if last:
                 self.note_end('input 6', ibp, lib)
         if done:
@@ -505,6 +572,17 @@ class Mux2:
         elif place == 6:
             self.hit('input 6: buffer on LIB')
 
+    def note_ascii(self, last, mode, port, done, character):
+        """Counts what 7-bit ASCII mode let pass, a glottal stop above all; changes nothing."""
+        self.note_said('input 6: ordinary in 7-bit ASCII', False, character)
+        if port.control[2:4] == (0, 0):                 # length 5, at which every code is special in 1974
+            self.hit('input 6: five bits in 7-bit ASCII')
+        if low_seven(character) == GLOTTAL_STOP:
+            met = {'not reported': not done, 'fills the buffer': last, 'echoed': mode == [1, 1] and port.empty,
+                   'transmitter busy': mode == [1, 1] and not port.empty}
+            for what in [what for what, is_met in met.items() if is_met]:
+                self.hit(f'input 6: glottal stop in 7-bit ASCII, {what}')
+
     def output(self, p):
         self.note_service('output', p)
         memory, block, port = self.memory, self.block_of(p), self.record.port[p]
@@ -541,6 +619,8 @@ class Mux2:
             last, special = self.ends(obp, lob), self.special(BYTE_BITS[byte])
             done = last or (asks_special == 1 and special)
             self.note_fetch(block, pointer, last, special, asks_special)
+            if asks_special:
+                self.note_asked(last, special, BYTE_BITS[byte])
             if last:
                 self.note_end('output 01', obp, lob)
         elif mode == [1, 0]:
@@ -579,6 +659,16 @@ class Mux2:
             self.hit('output 01: neither')
         if pointer // 2 == block + 5:
             self.hit('output 01: byte fetched from OBP')
+
+    def note_asked(self, last, special, character):
+        """Counts what the special request met; changes nothing."""
+        if special:
+            self.note_said('output 01: special, asked for', True, character)
+            return
+        self.hit('output 01: ordinary, special asked for')
+        self.note_said('output 01: ordinary, special asked for', False, character)
+        if low_seven(character) == GLOTTAL_STOP and not last:
+            self.hit('output 01: glottal stop passes the special request')
 
     def interrupt(self, p, kind):
         """Raises an interrupt; `kind` is the status bit, 2 for input and 3 for output."""

@@ -28,6 +28,25 @@ AT_0 = [(pointer, end) for pointer in (65533, 65534, 65535, 0) for end in (0, 1,
 SHORT = AROUND + FAR + MIDDLE + NEAR_0 + AT_0
 LENGTHS = (1, 2, 3, 8)                                  # of buffers that run to their end
 
+# Sets of special codes (02, K5): those of order 28, and those that the Mighty Mux could take (000, 3.7.9.1), by the octal codes
+# that are special.
+WHOLE = (mux2.NO_CODE, mux2.EVERY_CODE, mux2.SET_1974)
+OPTIONS = {
+    '#1': (0o3, 0o4, 0o31),
+    '#1a': (0o3, 0o12, 0o15, 0o177),
+    '#2': (0o0, 0o4, 0o15, 0o21, 0o23),
+    '#2a': (0o136,),
+    '#3, input': (0o0, 0o3, 0o4, 0o5, 0o6, 0o10, 0o14, 0o15, 0o25, 0o27, 0o30, 0o31, 0o32, 0o33),
+    '#3, output': (0o0, 0o3, 0o4, 0o5, 0o6, 0o14, 0o15, 0o25, 0o27, 0o30, 0o31),
+}
+FOUR_SETS = (mux2.SET_1974, mux2.DICTIONARY, mux2.EVERY_CODE, mux2.NO_CODE)
+MAIN_SETS = (*FOUR_SETS, *map(mux2.set_of, OPTIONS.values()))
+NAME = tuple(b'ma|ohi')                                 # a name of the dictionary, its glottal stop an octal 174
+STOP_AT = NAME.index(mux2.GLOTTAL_STOP)
+
+# How often a setup of a random session is given each set.
+CHOSEN = {mux2.SET_1974: 6, mux2.DICTIONARY: 2, mux2.EVERY_CODE: 1, mux2.NO_CODE: 1, 'random': 2}
+
 # How often each action is chosen, by the kind of session.
 USUAL = dict(turn=60, sweep=14, processor=8, host=4, lend_list=2, poke=2, stopped=2,
              bad_setup=0.4, bad_record=1, bad_memory=1, bad_port=1, bad_sweep=1, reset=0.4)
@@ -158,9 +177,32 @@ class Author:
                 + line * 2048 + self.below(4) * 512 + self.chance(0.2) * 256 + low)
 
     def control(self):
-        """Eight control bits, most often of length 7 or 8: at 5 every code is special."""
+        """Eight control bits, most often of length 7 or 8: at 5 every code is special in 1974."""
         length = self.one_of(0, 1, 2, 2, 3, 3, 3)
         return self.below(4) * 64 + length * 16 + self.below(16)
+
+    # Sets of special codes.
+
+    def give_set(self, wanted):
+        """Setups are from now on given this set: by order 28 if that is nearer than the set that stands, then by 27."""
+        def apart(codes):
+            return [code for code in range(mux2.CODES) if codes[code] != wanted[code]]
+
+        nearest = min(WHOLE, key=lambda codes: len(apart(codes)))
+        if len(apart(nearest)) < len(apart(self.driver.codes)):
+            self.do(drive.CODES, WHOLE.index(nearest))
+        for code in apart(self.driver.codes):
+            self.do(drive.CODE, code, wanted[code])
+
+    def random_set(self):
+        """A set with few special codes, about half of them, or all but few."""
+        part = self.one_of(0.05, 0.5, 0.95)
+        return tuple(int(self.chance(part)) for _ in range(mux2.CODES))
+
+    def choose_set(self):
+        """The set of the next setup, about every second time that of 1974."""
+        wanted = self.weighted(CHOSEN)
+        self.give_set(self.random_set() if wanted == 'random' else wanted)
 
     # Preparing a port for its turn.
 
@@ -282,7 +324,7 @@ class Author:
     def poke(self):
         """A record that no call would make, but a sound one."""
         u = self.unit
-        what = self.below(6)
+        what = self.below(7)
         if what == 0:
             self.do(drive.POKE, 3, self.below(u.ports))
         elif what == 1:
@@ -294,6 +336,8 @@ class Author:
             self.do(drive.POKE, 1, ports)
             self.do(drive.POKE, 2, base)
             self.do(drive.POKE, 3, self.below(ports))
+        elif what == 4:
+            self.do(drive.POKE_CODE, self.byte() % 128, self.below(2))
         else:
             p = self.one_of(self.below(mux2.ARRAY), u.pos, u.pos, u.pos)
             field = self.below(9)
@@ -379,6 +423,7 @@ class Author:
         base = self.below(2 + 32768 // (8 * max(b % 64, 1))) * 8 * (b % 64)
         base = self.one_of(base, base, base, min(base + self.one_of(1, b // 2, 4 * b), MANY),
                            self.one_of(HIGH, MANY))
+        self.choose_set()
         self.do(drive.SETUP, b, ports, base, self.below(2))
         if self.unsound():
             self.some_calls()
@@ -401,6 +446,7 @@ class Author:
         return b, ports, base
 
     def good_setup(self):
+        self.choose_set()
         self.do(drive.SETUP, *self.sound_place(self.one_of(8, 16, 32)), self.below(2))
         for p in range(self.unit.ports):
             if self.chance(0.8):
@@ -575,12 +621,18 @@ def code_sent(author, ocw, code):
     author.do(drive.TRANSMITTED, 0)
 
 
-def one_port(author, base):
-    """A running unit of one port, by calls and a host write alone."""
-    author.do(drive.SETUP, 8, 1, base, 0)
+def running(author, ports, base, control, b=8):
+    """A running unit whose ports have these control bits, by calls and host writes alone."""
+    author.do(drive.SETUP, b, ports, base, 0)
     author.do(drive.DOC)
-    author.write(author.block(0) + 1, 0o40060)          # port control: characters of eight bits
-    author.inspect()
+    for p in range(ports):
+        author.write(author.block(p) + 1, 0o40000 + control)
+        author.inspect()
+
+
+def one_port(author, base):
+    """A running unit of one port, for characters of eight bits."""
+    running(author, 1, base, 0o60)
 
 
 def codes_session():
@@ -724,10 +776,298 @@ def short_session():
     return author, reached
 
 
+# The session of the sets (02, K5).
+
+def restart(author):
+    """A reset empties every transmitter and keeps the set; the unit then runs again."""
+    author.do(drive.RESET)
+    author.do(drive.DOC)
+
+
+def each_port_receives(author, icw, codes):
+    """Each port receives one of these codes under this ICW."""
+    for p, code in enumerate(codes):
+        author.write(author.block(p), icw)
+        author.do(drive.ARRIVAL, p, code, 0, 0)
+    for _ in codes:
+        author.inspect()
+    restart(author)
+
+
+def put_next(author, p, code):
+    """The host puts the byte that port p's automatic output sends next."""
+    host_byte(author, author.mux.memory.word(author.block(p) + 5) + 1, code)
+
+
+def each_port_sends(author, ocw, codes):
+    """Each port sends one of these codes under this OCW."""
+    for p, code in enumerate(codes):
+        author.write(author.block(p) + 1, ocw)
+        put_next(author, p, code)
+    for _ in codes:
+        author.inspect()
+    restart(author)
+
+
+def thirty_two_ports(author, b):
+    """A running unit of 32 ports with the set that stands; the buffers of each have room for what is to come."""
+    running(author, 32, 128 * b, 0o60, b)
+    for p in range(32):
+        set_buffer(author, (0, 4, 6), RECEIVING[0], 20000 + 256 * p, 20255 + 256 * p, p)
+        set_buffer(author, (1, 5, 7), SENDING[0], 40000 + 256 * p, 40255 + 256 * p, p)
+
+
+def every_code(author, receiving, sending):
+    """Each of the 256 codes is received under each of these modes, and sent under each of those."""
+    for first in range(0, 256, 32):
+        codes = range(first, first + 32)
+        for icw in receiving:
+            each_port_receives(author, icw, codes)
+        for ocw in sending:
+            each_port_sends(author, ocw, codes)
+
+
+def swept(author):
+    """A turn for each of 32 ports, by sweeps."""
+    left = 32
+    while left:
+        author.do(drive.SWEEP, left, author.look())
+        left = -author.unit.pos % 32
+    restart(author)
+
+
+def swept_codes(author):
+    """Letters, glottal stops and returns at 32 ports, received and then sent: a sweep stops where a code is special."""
+    codes = [NAME[p % len(NAME)] if p % 8 else 0o15 for p in range(32)]
+    for p, code in enumerate(codes):
+        author.write(author.block(p), RECEIVING[3])
+        author.do(drive.ARRIVAL, p, code, 0, 0)
+    swept(author)
+    for p, code in enumerate(codes):
+        author.write(author.block(p) + 1, SENDING[1])
+        put_next(author, p, code)
+    swept(author)
+
+
+def name_typed(author, icw, end, still_busy=False):
+    """A name is typed letter by letter into a buffer for its first `end` letters; the host takes each report and goes on.
+    If `still_busy`, the letter before the glottal stop is still being echoed when the stop comes."""
+    set_buffer(author, (0, 4, 6), icw, 2000, 2000 + end)
+    for place, code in enumerate(NAME):
+        if author.done(0, 0):
+            author.write(author.block(0), icw)
+        author.do(drive.ARRIVAL, 0, code, 0, 0)
+        author.inspect()
+        if not author.unit.port[0].empty and not (still_busy and place == STOP_AT - 1):
+            author.do(drive.TRANSMITTED, 0)
+    author.do(drive.DIAS)
+
+
+def name_sent(author, ocw):
+    """A name is sent as 7-bit ASCII mode keeps it, each top bit 1; the host takes each report and goes on."""
+    for place, code in enumerate(NAME, 2001):
+        host_byte(author, place, code + 128)
+    set_buffer(author, (1, 5, 7), ocw, 2000, 2000 + len(NAME))
+    for _ in NAME:
+        if author.done(0, 1):
+            author.write(author.block(0) + 1, ocw)
+        send(author)
+    author.do(drive.DIAS)
+
+
+def names(author):
+    """Names in buffers that end with the last letter, with the glottal stop and later, without an echo and with one."""
+    for icw in RECEIVING[2:]:
+        for end in (STOP_AT + 1, 100, len(NAME)):
+            name_typed(author, icw, end)
+    for end in (STOP_AT + 1, len(NAME)):
+        name_typed(author, RECEIVING[3], end, still_busy=True)
+    for ocw in SENDING:
+        name_sent(author, ocw)
+
+
+def other_rules(author):
+    """Codes where another rule comes before rule 5: marked characters, single mode, mode 01, INDONE set."""
+    for code in (mux2.GLOTTAL_STOP, 0o101, 0o15):
+        for parity, broken in ((1, 0), (0, 1)):
+            set_buffer(author, (0, 4, 6), 0o70000, 2000, 2100)
+            author.do(drive.ARRIVAL, 0, code, parity, broken)
+            author.inspect()
+        for icw in (0o70000, 0o10000, 0o30000, 0o170000):
+            author.write(author.block(0), icw)
+            author.do(drive.ARRIVAL, 0, code, 0, 0)
+            if icw == 0o70000:
+                author.do(drive.ARRIVAL, 0, code, 0, 0)     # the overload mark
+            author.inspect()
+
+
+def main_sets(author):
+    """Each of the main sets in new units: every code in every automatic mode, sweeps, names, the other rules."""
+    for number, codes in enumerate(MAIN_SETS):
+        author.give_set(codes)
+        thirty_two_ports(author, mux2.BLOCKS[number % 3])
+        swept_codes(author)
+        every_code(author, RECEIVING, SENDING)
+        one_port(author, 64)
+        names(author)
+        other_rules(author)
+
+
+def random_sets(author):
+    """Random sets, and every code in the two modes that ask them."""
+    for b in mux2.BLOCKS:
+        author.give_set(author.random_set())
+        thirty_two_ports(author, b)
+        every_code(author, RECEIVING[3:], SENDING[1:])
+
+
+def received_and_sent(author, code):
+    """A code is received in 7-bit ASCII mode and sent with the special request."""
+    set_buffer(author, (0, 4, 6), 0o50000, 2000, 3000)
+    receive(author, code)
+    set_buffer(author, (1, 5, 7), 0o30000, 4000, 5000)
+    host_byte(author, 4001, code)
+    send(author)
+
+
+def near(author, code):
+    """A code is received and sent, with its top bit 1 too, and the codes beside it."""
+    for other in (code, code + 128, (code + 1) % 128, (code - 1) % 128):
+        received_and_sent(author, other)
+
+
+def single_codes(author):
+    """For each code a set in which it alone is special, by a setup, and one in which it alone is ordinary, by pokes: no
+    other code's word can stand in for its own."""
+    for code in range(mux2.CODES):
+        author.give_set(mux2.set_of((code,)))
+        one_port(author, 64)
+        near(author, code)
+    author.give_set(mux2.EVERY_CODE)
+    one_port(author, 64)
+    for code in range(mux2.CODES):
+        author.do(drive.POKE_CODE, code, 0)
+        near(author, code)
+        author.do(drive.POKE_CODE, code, 1)
+
+
+def lengths(author):
+    """Characters of five to eight bits, under a random set and the dictionary's: the code is looked up after the cut. What
+    is sent is not cut."""
+    for codes in (author.random_set(), mux2.DICTIONARY):
+        author.give_set(codes)
+        for length in (5, 6, 7, 8):
+            running(author, 1, 64, (length - 5) * 16)
+            for code in range(length, 256, 6):
+                received_and_sent(author, code)
+
+
+def poked_sets(author):
+    """A code's word is poked between two services, and while a character and a byte of this code wait for theirs."""
+    author.give_set(mux2.DICTIONARY)
+    one_port(author, 64)
+    for code in (mux2.GLOTTAL_STOP, 0o101, 0o15, 0o173, 0o0, 0o177):
+        for yes in (1, 0, 1, 1, 0, 0):
+            author.do(drive.POKE_CODE, code, yes)
+            received_and_sent(author, code)
+        for yes in (1, 0):
+            set_buffer(author, (0, 4, 6), 0o70000, 2000, 3000)
+            author.do(drive.ARRIVAL, 0, code, 0, 0)
+            author.do(drive.POKE_CODE, code, yes)
+            send(author)
+            set_buffer(author, (1, 5, 7), 0o30000, 4000, 5000)
+            host_byte(author, 4001, code)
+            author.do(drive.DEVICE_STATUS, 0, 0)
+            author.do(drive.POKE_CODE, code, 1 - yes)
+            send(author)
+
+
+def every_other_call(author):
+    """Every call that is no setup, in units with a set of their own that must keep it; the set is asked after each."""
+    for codes in (mux2.DICTIONARY, mux2.EVERY_CODE, author.random_set()):
+        author.give_set(codes)
+        one_port(author, 64)
+        for order in ((drive.TRANSMITTED, 0), (drive.DEVICE_STATUS, 0, 1), (drive.DEVICE_STATUS, 0, 0), (drive.IOPLS,),
+                      (drive.TICK,), (drive.DIA,), (drive.DIAS,), (drive.START,), (drive.DOB,), (drive.DOC,),
+                      (drive.RESET,), (drive.DOC,), (drive.SWEEP, 0, 64), (drive.SWEEP, 3, 64), (drive.DOB,),
+                      (drive.INSPECT, 64), (drive.SWEEP, 3, 64), (drive.DOC,), (drive.ARRIVAL, 1, 65, 0, 0),
+                      (drive.SWEEP, 33, 64)):
+            author.do(*order)
+            if author.unit.runs:
+                received_and_sent(author, mux2.GLOTTAL_STOP)
+                received_and_sent(author, 0o101)
+
+
+def setups_between(author):
+    """Setups with another set in mid-session, while a character waits: one that is refused leaves the unit and its set, or
+    gives the record of zeros, whose set a poke can change; one that is accepted has the new set."""
+    wrong = ((7, 1, 64), (8, 0, 64), (8, 1, 65), (8, 1, 32768), (8, 121, 64))       # 1, 2, 3, 11 and 4
+    sets = (*FOUR_SETS, author.random_set())
+    for number, setting in enumerate(wrong):
+        author.give_set(sets[number])
+        one_port(author, 64)
+        for given in (*sets[number + 1:], *sets[:number + 1]):
+            author.do(drive.ARRIVAL, 0, mux2.GLOTTAL_STOP, 0, 0)
+            author.give_set(given)
+            author.do(drive.SETUP, *setting, 0)
+            set_buffer(author, (0, 4, 6), 0o70000, 2000, 3000)
+            send(author)
+            received_and_sent(author, mux2.GLOTTAL_STOP)
+            received_and_sent(author, 0o101)
+        for given in sets:
+            author.give_set(given)
+            author.do(drive.SETUP, *setting, 1)
+            author.do(drive.DIA)
+            author.do(drive.POKE_CODE, number, 1)
+            author.do(drive.RESET)
+            author.do(drive.SETUP, *setting, 0)
+        for given in sets:
+            author.give_set(given)
+            one_port(author, 64)
+            received_and_sent(author, mux2.GLOTTAL_STOP)
+            author.do(drive.ARRIVAL, 0, mux2.GLOTTAL_STOP, 0, 0)
+
+
+def sets_session():
+    """The session of the sets (02, K5), by calls, host writes and orders 27 to 29."""
+    author = Author(SEED, 0)
+    author.kind = 'sets'
+    author.do(drive.PLACES, 32, 65535)
+    setups_between(author)
+    poked_sets(author)
+    every_other_call(author)
+    lengths(author)
+    single_codes(author)
+    main_sets(author)
+    random_sets(author)
+    reached = author.mux.reached
+    author.do(drive.END)
+    return author, reached
+
+
+def small_sets_session():
+    """A short session of four sets, for small.py: a name is typed and sent with the glottal stop's word poked to the other one
+    and, after a second setup, to its own. The set that is given stands through setups and pokes, and the unit keeps its own."""
+    author = Author(SEED, 0)
+    author.kind = 'small sets'
+    for codes in FOUR_SETS:
+        author.give_set(codes)
+        author.do(drive.DIA)
+        for word in (1 - codes[mux2.GLOTTAL_STOP], codes[mux2.GLOTTAL_STOP]):
+            one_port(author, 64)
+            author.do(drive.POKE_CODE, mux2.GLOTTAL_STOP, word)
+            name_typed(author, RECEIVING[3], len(NAME))
+            name_sent(author, SENDING[1])
+    reached = author.mux.reached
+    author.do(drive.END)
+    return author, reached
+
+
 def fixed_set(seed=SEED, sessions=SESSIONS):
     yield speeds_session()
     yield short_session()
     yield codes_session()
     yield bases_session()
+    yield sets_session()
     for number in range(sessions):
         yield write_session(seed, number)

@@ -1,4 +1,4 @@
-"""Checks the second program by document 01's settled examples, K1, K2, K4 and K10 of document 02 and the manual.
+"""Checks the second program by document 01's settled examples, K1, K2, K4, K5 and K10 of document 02 and the manual.
 
 It also checks that the digests are those of FORMAT.md, that a written session
 can be read and driven again, that compare.py finds a changed line and that
@@ -8,6 +8,7 @@ settings2.py finds a wrong answer. Exit status 0 only where every check passes.
 import re
 import sys
 import traceback
+from functools import lru_cache
 from random import Random
 
 import compare
@@ -20,10 +21,11 @@ import small
 from mux2 import IDLE, INPUT, NOTHING, OUTPUT, Answer, Mux2
 
 
-def unit(b=8, ports=8, base=64, control=0o60):
-    """A running unit whose ports have length 8, with parity checked, unless told otherwise."""
+def unit(b=8, ports=8, base=64, control=0o60, codes=None):
+    """A running unit whose ports have length 8, with parity checked, unless told otherwise; with a set of special codes if
+    one is given."""
     mux = Mux2()
-    code, mux.record = mux.setup(b, ports, base)
+    code, mux.record = mux.setup(b, ports, base) if codes is None else mux.setup(b, ports, base, codes)
     assert code == 0
     for p in range(ports):
         mux.change(p, control=mux2.BYTE_BITS[control])
@@ -63,7 +65,7 @@ def test_refused_setup_gives_zeros():
 
 
 def test_special_codes():
-    mux = Mux2()
+    mux = unit()
     for low in range(128):
         for top in (0, 128):
             wanted = low < 32 or low > 123
@@ -473,6 +475,464 @@ def test_random_sessions_tell_the_old_rule():
         author, reached = sessions.write_session(sessions.SEED, number)
         assert all(mutants.first_difference(program, author) is not None for program in wrong)
         assert reached['input 6: not last'] and reached['output 01: not last']
+
+
+# Document 02, K5.
+
+# The options of the Mighty Mux (000, 3.7.9.1), their codes in decimal.
+OPTIONS = {'#1': {3, 4, 25}, '#1a': {3, 10, 13, 127}, '#2': {0, 4, 13, 17, 19}, '#2a': {94},
+           '#3, input': {0, 3, 4, 5, 6, 8, 12, 13, 21, 23, 24, 25, 26, 27},
+           '#3, output': {0, 3, 4, 5, 6, 12, 13, 21, 23, 24, 25}}
+
+
+def set_of(codes):
+    return [int(code in codes) for code in range(128)]
+
+
+ORDINARY_1974 = set(range(32, 124))                     # document 01: codes 32 to 123
+SET_1974 = set_of(set(range(128)) - ORDINARY_1974)
+DICTIONARY = set_of(set(range(128)) - ORDINARY_1974 - {0o174})
+RECEIVING, SENDING = (0o40000, 0o60000, 0o50000, 0o70000), (0o20000, 0o30000)
+
+
+def random_sets(count, seed=174):
+    random = Random(seed).random
+    for _ in range(count):
+        part = (0.1, 0.5, 0.9)[int(random() * 3)]
+        yield [int(random() < part) for _ in range(128)]
+
+
+def many_sets():
+    """The sets that this page names, each with one code alone that is special or ordinary, and random ones."""
+    yield from (SET_1974, DICTIONARY, [0] * 128, [1] * 128, *map(set_of, OPTIONS.values()))
+    for code in range(128):
+        yield set_of({code})
+        yield set_of(set(range(128)) - {code})
+    yield from random_sets(20)
+
+
+def state(mux):
+    """All that a unit holds but its set."""
+    return {**vars(mux.record), 'codes': None, 'port': list(mux.record.port)}, bytes(mux.memory.halves)
+
+
+def received(mux, icw, character, parity=0, brk=0):
+    """Port 0 receives a character under this ICW, its transmitter empty: the answer."""
+    mux.transmitted(0)
+    block(mux, icw=icw, ibp=2000, lib=3000)
+    return give(mux, 0, character, parity, brk)
+
+
+def sent(mux, ocw, byte):
+    """Port 0 sends a byte under this OCW: the answer."""
+    mux.transmitted(0)
+    mux.memory.put_byte(4001, byte)
+    block(mux, ocw=ocw, obp=4000, lob=5000)
+    return mux.inspect()[1]
+
+
+def outcome(codes, service, *how):
+    """A service in a fresh unit with this set: its answer and all that the unit holds afterwards but its set."""
+    mux = unit(ports=1, codes=codes)
+    return service(mux, *how), state(mux)
+
+
+def special_both_ways(mux, code):
+    """Whether a code is special, by input in 7-bit ASCII mode and output with the special request alike."""
+    answer = received(mux, 0o70000, code)
+    pointer = block(mux)[2]
+    assert answer == (Answer(INPUT, 0, 0, 0, 1) if answer.raised else Answer(INPUT, 0, 1, code, 0))
+    assert pointer == (2000 if answer.raised else 2001)
+    stops = sent(mux, 0o30000, code)
+    assert stops == Answer(OUTPUT, 0, 1, code, answer.raised)
+    return answer.raised == 1
+
+
+def test_default_set():
+    for code in range(128):
+        assert mux2.SET_1974[code] == (1 if code < 0o40 or code > 0o173 else 0)
+    for made in (Mux2().setup(8, 1, 64)[1], Mux2().setup(8, 1, 64, SET_1974)[1]):
+        assert made.codes == mux2.SET_1974 == Mux2.set_1974 and len(made.codes) == 128
+    for mux in (unit(ports=1), unit(ports=1, codes=SET_1974)):
+        for code in range(256):
+            assert special_both_ways(mux, code) == mux.special(mux2.BYTE_BITS[code]) == (code % 128 not in ORDINARY_1974)
+
+
+class WithTheOldRule(Mux2):
+    """Document 01's rule, which asks no set, for these comparisons alone."""
+
+    def special(self, character):
+        low = mux2.word_of((0,) * 9 + character[1:])
+        return low < 0o40 or low > 0o173
+
+
+def without_sets(author):
+    """A session's orders but those of sets, so that its units have the 1974 set."""
+    return [order for order in author.orders if order[0] not in (drive.CODE, drive.CODES, drive.POKE_CODE)]
+
+
+def lines_of(program, orders):
+    driver = drive.Driver(program)
+    return [driver.drive(order) for order in orders]
+
+
+def test_default_set_changes_no_answer():
+    written = [sessions.write_session(5, number)[0] for number in range(2 * len(sessions.KINDS))]
+    fixed = [sessions.codes_session()[0], sessions.bases_session()[0], sessions.short_session()[0]]
+    assert sum(author.calls for author in written + fixed) > 35000
+    for author in fixed:                                # these have no other set
+        assert mutants.first_difference(WithTheOldRule, author) is None
+    for author in written:
+        orders = without_sets(author)
+        assert lines_of(Mux2, orders) == lines_of(WithTheOldRule, orders)
+    told = [mutants.first_difference(WithTheOldRule, author) for author in written]
+    assert len([call for call in told if call is not None]) > 10        # with other sets the old rule differs
+
+
+def test_dictionary_set():
+    assert mux2.DICTIONARY == tuple(DICTIONARY)
+    assert [code for code in range(128) if mux2.DICTIONARY[code] != mux2.SET_1974[code]] == [0o174]
+
+
+def test_glottal_stop_is_kept_with_its_word():
+    for icw in (0o50000, 0o70000):
+        for pointer in (2000, 2001):
+            for character in (0o174, 0o374):
+                mux = unit(ports=1, codes=DICTIONARY)
+                sound = 1 if icw == 0o70000 else 0
+                for place, code in enumerate((0o141, character, 0o142), pointer):
+                    mux.transmitted(0)
+                    block(mux, icw=icw, ibp=place, lib=pointer + 9)
+                    before = bytearray(mux.memory.halves)
+                    assert give(mux, 0, code) == Answer(INPUT, 0, sound, code * sound, 0)
+                    before[place + 1] = 128 + code % 128                # once, in the next place, its top bit 1
+                    before[2 * 68:2 * 69] = (place + 1).to_bytes(2, 'big')      # IBP
+                    assert mux.memory.halves == before and mux.record.irq == 0 and mux.dia() == (0, 0)
+                assert bytes(mux.memory.halves[pointer + 1:pointer + 4]) == b'\xe1\xfc\xe2'
+
+
+def test_glottal_stop_is_reported_where_a_letter_is():
+    for codes, ordinary in ((DICTIONARY, True), (SET_1974, False)):
+        for icw in (0o50000, 0o70000):
+            for empty in (1, 0):
+                for pointer, end in ((2000, 2001), (2000, 2009), (2001, 2000), (65535, 0), (65535, 9)):
+                    mux = unit(ports=1, base=1024, codes=codes)
+                    block(mux, icw=icw, ibp=pointer, lib=end)
+                    mux.change(0, empty=empty)
+                    full, busy = pointer + 1 >= end, icw == 0o70000 and not empty
+                    echo = ordinary and icw == 0o70000 and empty
+                    done = not ordinary or full or busy
+                    assert give(mux, 0, 0o174) == Answer(INPUT, 0, *((1, 0o174) if echo else (0, 0)), done)
+                    mark = 0o1000 if ordinary and busy else 0           # bit 6: not echoed
+                    assert block(mux)[0] == (icw + 0o100000 + mark + 0o374 if done else icw)
+                    assert mux.memory.byte((pointer + 1) % 65536) == (0o374 if ordinary else 0)
+                    assert block(mux)[2] == ((pointer + 1) % 65536 if ordinary else pointer)
+                    assert mux.record.irq == done
+
+
+def test_glottal_stop_does_not_stop_output():
+    name = bytes(code + 128 for code in b'ma|ohi\r.')   # a name, a return, a full stop at the end
+    for codes, ocw, reports in ((DICTIONARY, 0o30000, [6, 7]), (DICTIONARY, 0o20000, [7]),
+                                (SET_1974, 0o30000, [2, 6, 7]), (SET_1974, 0o20000, [7])):
+        mux = unit(ports=1, codes=codes)
+        mux.memory.halves[2001:2009] = name
+        block(mux, ocw=ocw, obp=2000, lob=2008)
+        raised = []
+        for place, byte in enumerate(name):
+            answer = mux.inspect()[1]
+            assert answer[:4] == (OUTPUT, 0, 1, byte)
+            if answer.raised:
+                raised.append(place)
+                assert block(mux)[1::2] == [0o100000 + ocw, 2001 + place]
+                block(mux, ocw=ocw)
+            mux.transmitted(0)
+        assert raised == reports
+
+
+def test_every_other_code_is_as_before():
+    services = [(received, icw, code, *marks) for icw in RECEIVING for code in range(256)
+                for marks in ((0, 0), (1, 0), (0, 1))]
+    services += [(sent, ocw, code) for ocw in SENDING for code in range(256)]
+    differ = {how for how in services if outcome(DICTIONARY, *how) != outcome(SET_1974, *how)}
+    assert differ == {how for code in (0o174, 0o374) for how in (
+        (received, 0o50000, code, 0, 0), (received, 0o70000, code, 0, 0), (sent, 0o30000, code))}
+
+
+def test_the_set_is_asked_in_its_modes_alone():
+    every, none = [1] * 128, [0] * 128
+    for code in range(256):
+        for icw in (0o00000, 0o10000, 0o20000, 0o30000, 0o40000, 0o60000, 0o150000, 0o170000):
+            assert outcome(every, received, icw, code) == outcome(none, received, icw, code)
+        for ocw in (0o00000, 0o20000, 0o50000 + code, 0o60000 + code, 0o70000 + code, 0o130000):
+            assert outcome(every, sent, ocw, code) == outcome(none, sent, ocw, code)
+        assert outcome(every, special_both_ways, code)[0] and not outcome(none, special_both_ways, code)[0]
+
+
+def test_every_set_is_taken():
+    seen = set()
+    for codes in many_sets():
+        for setting in ((8, 8, 64), (32, 32, 15360), (7, 1, 64), (8, 0, 64), (8, 1, 65), (8, 1, 32768), (8, 121, 64)):
+            mux = unit(codes=codes)
+            before = vars(mux.record).copy()
+            code, made = mux.setup(*setting, codes)
+            old_code, old = mux.setup(*setting)
+            assert code == old_code and {**vars(made), 'codes': None} == {**vars(old), 'codes': None}
+            assert made.codes == (tuple(codes) if code == 0 else (0,) * 128)
+            assert vars(mux.record) == before and mux.record.codes == tuple(codes)
+            if code:
+                assert vars(made) == vars(mux2.Record())
+            seen.add(code)
+    assert seen == {0, 1, 2, 3, 4, 11}
+
+
+def test_a_set_is_not_shared():
+    codes = list(DICTIONARY)
+    mux = unit(ports=1, codes=codes)
+    codes[0o174], codes[0o101] = 1, 1                   # the list that was lent is changed afterwards
+    assert mux.record.codes == tuple(DICTIONARY)
+    mux.setup(8, 1, 64, [1] * 128)                      # setup touches no old record
+    mux.setup(8, 0, 64, [1] * 128)
+    assert mux.record.codes == tuple(DICTIONARY)
+    assert not special_both_ways(mux, 0o174) and not special_both_ways(mux, 0o101) and special_both_ways(mux, 0o15)
+    assert mux2.Record().codes == (0,) * 128
+
+
+def calls_of_every_kind(mux):
+    """Each call once and more, accepted and refused, as names and functions without arguments."""
+    def with_words(call, **words):
+        block(mux, **words)
+        return call()
+
+    yield from ((name, getattr(mux, name)) for name in mux2.PLAIN_CALLS)
+    yield from (('doc', mux.doc), ('tick', mux.tick), ('start', mux.start))
+    for character, parity, brk in ((0o174, 0, 0), (0o15, 0, 0), (0o101, 1, 0), (0o101, 0, 1)):
+        yield 'arrival', lambda: mux.arrival(0, character, parity, brk)
+        yield 'input', lambda: with_words(mux.inspect, icw=0o70000, ibp=2000, lib=2001)
+    yield 'arrival at no port', lambda: mux.arrival(9, 0o174, 0, 0)
+    yield 'transmitted', lambda: mux.transmitted(0)
+    for ocw in (0, 0o30000, 0o40377, 0o60101, 0o140000):
+        yield 'output', lambda: with_words(mux.inspect, ocw=ocw, obp=2000, lob=2001)
+        yield 'transmitted', lambda: mux.transmitted(0)
+    for level in (1, 0):
+        yield 'device_status', lambda: mux.device_status(0, level)
+    yield 'sweep', lambda: with_words(lambda: mux.sweep(5), ocw=0o30000, obp=2000, lob=2009)
+    yield 'sweep refused', lambda: mux.sweep(4097)
+    yield from (('dob', mux.dob), ('inspect', mux.inspect), ('sweep', lambda: mux.sweep(5)), ('reset', mux.reset))
+
+
+def test_a_set_is_kept():
+    for codes in (SET_1974, DICTIONARY, [1] * 128, [0] * 128, *random_sets(20)):
+        mux = unit(ports=1, codes=codes)
+        mux.lent_places = 10
+        for name, call in calls_of_every_kind(mux):
+            call()
+            assert mux.record.codes == tuple(codes), name
+        assert all(mux.reached[f'{call} accepted'] for call in mux2.REFUSALS)
+        mux.doc()
+        mux.change(0, control=mux2.BYTE_BITS[0o60])
+        for code in (0o174, 0o101, 0o15):
+            assert special_both_ways(mux, code) == (codes[code] == 1)
+
+
+def test_no_set_is_unsound():
+    for codes in many_sets():
+        mux = unit(ports=1)
+        mux.record.codes, mux.record.status = tuple(codes), 5
+        assert mux.dia() == (0, 5) and mux.reset() == 0 and mux.record.codes == tuple(codes)
+        mux.record.pos = 1
+        assert mux.dia() == (6, 0) and mux.reset() == 6 and mux.record.codes == tuple(codes)
+
+
+def test_a_set_is_asked_by_seven_bits():
+    for code in range(128):
+        alone, others = set_of({code}), set_of(set(range(128)) - {code})
+        for codes in (alone, others):
+            mux = unit(ports=1, codes=codes)
+            answers = [mux.special(mux2.BYTE_BITS[character]) for character in range(256)]
+            assert answers == [codes[character % 128] == 1 for character in range(256)]
+            for near in (code, code + 128, code ^ 64, (code + 1) % 128, (code + 127) % 128, code // 2, code * 2 % 256):
+                assert special_both_ways(mux, near) == (codes[near % 128] == 1)
+
+
+def test_a_set_is_asked_after_the_cut():
+    for length, code in ((5, 0o34), (6, 0o74), (7, 0o174), (8, 0o174)):
+        for character in (0o174, 0o374):
+            for codes in (set_of({code}), set_of(set(range(128)) - {code}), set_of({0o174}), set_of({0o34, 0o74}),
+                          DICTIONARY):
+                mux = unit(ports=1, control=(length - 5) * 16, codes=codes)
+                special = codes[code]
+                answer = received(mux, 0o50000, character)
+                assert answer == Answer(INPUT, 0, 0, 0, special)
+                assert mux.memory.byte(2001) == (0 if special else 0o200 + code)
+                assert block(mux)[0] == (0o150200 + code if special else 0o50000)
+                # What is sent is not cut, so its own code is asked.
+                assert sent(mux, 0o30000, character) == Answer(OUTPUT, 0, 1, character, codes[0o174])
+
+
+def test_five_bits_with_ordinary_codes():
+    mux = unit(ports=1, control=0, codes=set_of(OPTIONS['#2a']))
+    assert not any(received(mux, 0o50000, code).raised for code in range(256))
+    assert all(received(unit(ports=1, control=0), 0o50000, code).raised for code in range(256))       # in 1974
+
+
+def test_options_of_the_mighty_mux():
+    assert {name: set(codes) for name, codes in sessions.OPTIONS.items()} == OPTIONS
+    for special in OPTIONS.values():
+        mux = unit(ports=1, codes=set_of(special))
+        for code in range(256):
+            assert special_both_ways(mux, code) == (code % 128 in special)
+
+
+def test_errors_before_the_set():
+    for codes in (DICTIONARY, SET_1974, [1] * 128, [0] * 128):
+        mux = unit(ports=1, codes=codes)
+        for code in (0o174, 0o101, 0o15):
+            for parity, brk, bits in ((1, 0, 0o2000), (0, 1, 0o6000)):
+                block(mux, icw=0o70000, ibp=2000, lib=2001)
+                assert give(mux, 0, code, parity, brk) == Answer(INPUT, 0, 0, 0, 1)
+                assert block(mux)[::2] == [0o170200 + bits + code, 2000] and mux.memory.byte(2001) == 0
+
+
+def test_a_poked_set():
+    mux = unit(ports=1, codes=DICTIONARY)
+    for word in (0, 1, 1, 0):
+        mux.arrival(0, 0o174, 0, 0)                     # held while its word is poked
+        mux.record.codes = mux2.with_code(mux.record.codes, 0o174, word)
+        block(mux, icw=0o50000, ibp=2000, lib=2009)
+        assert mux.inspect()[1].raised == word and special_both_ways(mux, 0o174) == (word == 1)
+        assert [code for code in range(128) if mux.record.codes[code] != DICTIONARY[code]] == [0o174] * word
+
+
+def test_wrong_sets_fail():
+    found = {name: texts for name, *texts in mutants.SET_MUTANTS}
+    for check, names in (
+            (test_default_set, (
+                'setup gives yes and no exchanged', 'both ask yes and no exchanged', 'input asks six bits of the code',
+                'output asks no for yes and yes for no of 123', 'setup gives the set without code 0')),
+            (test_glottal_stop_is_kept_with_its_word, (
+                'input asks the 1974 set', 'setup gives the 1974 set', 'ordinary unlike 1974 not echoed',
+                'glottal stop stored twice', 'glottal stop stored as a space', 'glottal stop stored with its top bit 0',
+                'seen: ordinary unlike 1974 stored and reported as well')),
+            (test_glottal_stop_is_reported_where_a_letter_is, (
+                'input asks the 1974 set', "input asks the dictionary's set",
+                'glottal stop that fills the buffer not reported',
+                'glottal stop that finds the transmitter busy not reported',
+                'glottal stop that finds the transmitter busy not marked')),
+            (test_glottal_stop_does_not_stop_output, (
+                'output asks the 1974 set', "output asks the dictionary's set", 'glottal stop not sent where it is ordinary',
+                'special request ignored with another set', 'special request not needed with another set')),
+            (test_every_other_code_is_as_before, (
+                'input asks the 1974 set', 'output asks the 1974 set', 'input asks all eight bits, the 1974 set past the set',
+                'output asks all eight bits, the 1974 set past the set', 'another set asked outside 7-bit ASCII',
+                'ordinary code unlike 1974 stored with its error', 'special request not needed with another set')),
+            (test_the_set_is_asked_in_its_modes_alone, (
+                'another set asked outside 7-bit ASCII', 'special request not needed with another set',
+                'special by another set alone, asked outside 7-bit ASCII', 'special request ignored with another set',
+                'input asks the 1974 set where no code is special', 'output asks the 1974 set where every code is special')),
+            (test_every_set_is_taken, (
+                'refused setup keeps the set', 'refused setup gives the 1974 set',
+                'refused setup gives the set of the unit', 'refused setup changes the set of the unit',
+                'setup gives the set turned round', 'setup gives the 1974 set in blocks of 32', 'one set for every record',
+                'set without a special code refused', 'set with a special letter refused')),
+            (test_a_set_is_not_shared, (
+                'setup gives the set that the unit has', 'refused setup changes what is asked',
+                'setup gives the 1974 set beside the other')),
+            (test_a_set_is_kept, [f'{call} {loses}' for call in mutants.CHANGES
+                                  for loses in ('puts the 1974 set back', 'clears the set')]),
+            (test_no_set_is_unsound, [name for name in found if name.endswith('unsound')]),
+            (test_a_set_is_asked_by_seven_bits, [
+                name for name in found if re.match('(input|output) asks ', name)
+                and not re.search('before the cut|arrives|cut to|1974 set (where|past)|top bit 1$', name)]),
+            (test_a_set_is_asked_after_the_cut, ('input asks before the cut', 'output asks for the byte cut to the length')),
+            (test_five_bits_with_ordinary_codes, ('input asks the 1974 set', 'input asks the 1974 set beside it')),
+            (test_options_of_the_mighty_mux, ('input asks the 1974 set', 'output asks the word of the next code')),
+            (test_errors_before_the_set, (
+                'special asked before an error, and hides it', 'ordinary code stored with its error')),
+            (test_a_poked_set, (
+                'input asks when the character arrives', 'set kept from setup, whatever the record has since'))):
+        for name in names:
+            assert failing(check, mutants.program(*found[name])), name
+
+
+def test_orders_of_sets():
+    driver = drive.Driver()
+
+    def drive_all(*orders):
+        return [line for line in map(driver.drive, orders) if line is not None]
+
+    setup, dia = (drive.SETUP, 8, 1, 64, 0), (drive.DIA,)
+    assert driver.codes == tuple(SET_1974) and driver.mux.record.codes == (0,) * 128
+    for which, codes in enumerate(([0] * 128, [1] * 128, SET_1974)):
+        drive_all((drive.CODES, 1 - which // 2), (drive.CODES, which), setup)
+        assert driver.mux.record.codes == driver.codes == tuple(codes)
+    drive_all((drive.CODE, 0o174, 0))                   # the unit stays as it is
+    assert driver.codes == tuple(DICTIONARY) and driver.mux.record.codes == tuple(SET_1974)
+    drive_all((drive.CODE, 0o174, 0), setup, (drive.POKE_CODE, 0o101, 1), (drive.POKE_CODE, 0, 0))
+    assert driver.codes == tuple(DICTIONARY)            # the set that is given stays too
+    poked = [*DICTIONARY]
+    poked[0o101], poked[0] = 1, 0
+    assert driver.mux.record.codes == tuple(poked)
+    setups = drive_all((drive.SETUP, 8, 0, 64, 0), setup)
+    assert setups[0].split()[2] == str(drive.digest([0] * 1288)) and driver.codes == tuple(DICTIONARY)
+    one, other = drive_all(dia, (drive.POKE_CODE, 127, 0), dia)
+    numbers = [8, 1, 64, 0, 0, 0, 0, 0, *DICTIONARY] + [0, 0, 0, 0, 0, 1, 0, 1, 0] * 128
+    assert one == f'{drive.DIA} 0 0 {drive.digest(numbers)}' and setups[1].split()[2] == one.split()[3]
+    numbers[8 + 127] = 0
+    assert other == f'{drive.DIA} 0 0 {drive.digest(numbers)}'
+    drive_all((drive.END,))
+    assert driver.codes == tuple(SET_1974) and driver.mux.record.codes == (0,) * 128
+
+
+@lru_cache(maxsize=None)
+def session_of_the_sets():
+    return sessions.sets_session()
+
+
+def services_under_sets(author):
+    """What the services of a session met: the set, the mode with bit 3, the character or the byte that is next."""
+    met = set()
+
+    class Watching(Mux2):
+        def input(self, p):
+            met.add((self.record.codes, self.memory.word(self.block_of(p)) & 0o70000, self.record.port[p].byte))
+            return super().input(p)
+
+        def output(self, p):
+            answer = super().output(p)
+            met.add((self.record.codes, self.memory.word(self.block_of(p) + 1) & 0o70000, answer.byte))
+            return answer
+
+    lines_of(Watching, author.orders)
+    return met
+
+
+def test_session_of_the_sets():
+    author, reached = session_of_the_sets()
+    assert author.calls <= 40000 and 2 * author.serving > author.calls
+    new = mux2.BRANCHES[mux2.BRANCHES.index('setup accepted with the 1974 set'):]
+    assert [branch for branch in new if not reached[branch]] == [f'speed {code:03b}' for code in range(8)]
+    met = services_under_sets(author)
+    main = [SET_1974, DICTIONARY, [0] * 128, [1] * 128, *map(set_of, OPTIONS.values())]
+    for codes in main:
+        for mode in RECEIVING + SENDING:
+            assert all((tuple(codes), mode, code) in met for code in range(256))
+    for code in range(128):
+        for codes in (set_of({code}), set_of(set(range(128)) - {code})):
+            for near in (code, code + 128, (code + 1) % 128, (code + 127) % 128):
+                assert (tuple(codes), 0o50000, near) in met and (tuple(codes), 0o30000, near) in met
+    others = {codes for codes, _, _ in met} - {tuple(codes) for codes in main}
+    assert len(others) > 2 * 128 + 5
+
+
+def test_random_sessions_choose_sets():
+    counts, pokes = dict.fromkeys((*mux2.SETS.values(), mux2.ANOTHER), 0), 0
+    for number in range(2 * len(sessions.KINDS)):
+        author, reached = sessions.write_session(sessions.SEED, number)
+        for name in counts:
+            counts[name] += reached[f'setup accepted with {name}'] + reached[f'setup refused with {name}']
+        pokes += sum(order[0] == drive.POKE_CODE for order in author.orders)
+    assert min(counts.values()) > 4 and pokes > 10
+    assert 0.35 < counts['the 1974 set'] / sum(counts.values()) < 0.65
 
 
 # Document 02, K10.
@@ -887,10 +1347,10 @@ def test_digests_are_those_of_the_format():
         if order[0] == drive.DIGEST:
             mux = driver.mux
             u, memory = mux.record, mux.memory
-            numbers = [getattr(u, field) for field in drive.FIELDS]
+            numbers = [getattr(u, field) for field in drive.FIELDS] + list(u.codes)
             for port in u.port:
                 numbers += [*port[:6], mux2.BYTE_OF[port.control], *port[7:]]
-            assert len(numbers) == 1160 and driver.record() == drive.digest(numbers)
+            assert len(numbers) == 1288 and driver.record() == drive.digest(numbers)
             assert memory.digest() == drive.digest(map(memory.word, range(mux2.ROOM)))
 
 
@@ -907,9 +1367,11 @@ def test_orders_keep_the_format():
     field = [number] * 4 + [1, 1, 1, word]
     most = {1: (number, number, number, 1), 2: (number, 255, 1, 1), 3: (number,), 4: (number, 1),
             13: (32760,), 14: (number, 32760), 20: (39999, word), 21: (2147483646,), 22: (40000,),
-            23: (4200, word), 24: (7, number), 25: (127, 8, 255), 26: (255,)}
+            23: (4200, word), 24: (7, number), 25: (127, 8, 255), 26: (255,),
+            27: (127, 1), 28: (2,), 29: (127, 1)}
     written = [sessions.write_session(7, number)[0] for number in range(len(sessions.KINDS))]
-    by_calls = [sessions.codes_session()[0], sessions.short_session()[0]]
+    by_calls = [sessions.codes_session()[0], sessions.short_session()[0], session_of_the_sets()[0],
+                sessions.small_sets_session()[0]]
     pokes = (drive.POKE, drive.POKE_PORT)
     assert not any(order[0] in pokes for author in by_calls for order in author.orders)
     for author in written + by_calls + [sessions.speeds_session()[0], sessions.bases_session()[0]]:
