@@ -39,9 +39,9 @@ pub fn special_in(codes: [bool; 128], c: u8) -> bool
 pub fn with_code(codes: [bool; 128], c: u8, special: bool) -> [bool; 128]
     ensures { λ r. ⌜ r ≡ withCode codes c special ⌝ }
 {
-    let low = (c % 128) as usize;
+    let at = (c % 128) as usize;
     let mut r = codes;
-    r[low] = special;
+    r[at] = special;
     r
 }
 
