@@ -3,7 +3,7 @@
 --   brings-setting  a setup that is not refused brings its own
 --   set-since       so the set is that of the last setup that was not refused, however many calls and host writes came since
 --   line-act-unread, order-act-unread   what the lines and the processor do does not depend on the set
--- Not here: that setup's own answer does not, in unit, laws/Set; what an inspection makes of it, in scan, laws/Set.
+-- Not here: that setup's own answer does not, in unit, laws/Set; what an inspection and a sweep make of it, in laws/Set of scan and sweep.
 -- Assumes nothing.
 use mathlib.Core.Path.{_≡_, _∙_, refl, ap}
 use mathlib.Core.Bool.{Bool}
@@ -24,7 +24,7 @@ use Rattle.lines.specs.laws.Lines.{line-keeps, line-unread}
 use Rattle.processor.specs.declared.orders.Order.{Order}
 use Rattle.processor.specs.Processor.{order}
 use Rattle.processor.specs.laws.Processor.{order-setting, order-unread}
-use Rattle.scan.specs.laws.Scan.{inspection-either, scan-moves}
+use Rattle.scan.specs.laws.Scan.{inspection-setting}
 use Rattle.calls.specs.declared.call.Act.the-variants.{Line, Processor, Inspect}
 use Rattle.calls.specs.Calls.{setUp, performed}
 use Rattle.calls.specs.Events.{Single, setsUp, does, writes, result, after, runSingles}
@@ -40,7 +40,7 @@ unfolding result performed setUp pick
 keeps-setting w (setsUp s) h = rw (setup-refused s h, ne-eqb (refusal (ofSetup s)) 0 h)
 keeps-setting w (does (Line p e)) h = line-keeps (w .mux) p e .setting
 keeps-setting w (does (Processor o)) h = order-setting (w .mux) o
-keeps-setting w (does Inspect) h = inspection-either (λ v. v .setting ≡ w .mux .setting) (w .mux) (w .memory) refl (scan-moves (w .mux) (w .memory) .setting)
+keeps-setting w (does Inspect) h = inspection-setting (w .mux) (w .memory)
 keeps-setting w (writes m) h = refl
 
 pub brings-setting : (w : World) (s : Setting) → refusal (ofSetup s) ≡ 0 → after w (setsUp s) .mux .setting ≡ s

@@ -6,7 +6,7 @@
 --   Moves, scan-moves           what every inspection that is a turn does: no refusal, its port named, the position one on, the rest kept
 --   moves-sound, answer-names   the record is sound again; an answer other than "nothing" names its port
 --   inspection-either           what holds of the record itself and of the record after a turn holds after any inspection
---   inspection-runs .. -ports   so the unit runs on or stands, a sound record stays sound, and the array of ports is as long as it was
+--   inspection-runs .. -ports   so the unit runs on or stands, the setting is kept, a sound record stays sound, and the array of ports is as long as it was
 --   turn-takes, service-empty   after its turn a port holds nothing; after a service the transmitter is as it was unless a byte was handed to it
 --   service-sent, inspection-sent   a byte that was handed over, echo or output, leaves the transmitter not empty
 -- Not here: what a turn is, in specs/Turn; what a service does to the memory, in laws/Kept of input and of output; bounds on waiting, in waiting.
@@ -237,6 +237,10 @@ inspection-either C u m a b = go (kind u m)
 -- no inspection stops a unit or sets it going
 pub inspection-runs : (u : Mux) (m : List ℕ) → inspection u m .world .mux .runs ≡ u .runs
 inspection-runs u m = inspection-either (λ v. v .runs ≡ u .runs) u m refl (scan-moves u m .runs)
+
+-- none changes the setting
+pub inspection-setting : (u : Mux) (m : List ℕ) → inspection u m .world .mux .setting ≡ u .setting
+inspection-setting u m = inspection-either (λ v. v .setting ≡ u .setting) u m refl (scan-moves u m .setting)
 
 -- a sound record stays sound
 pub inspection-sound : (u : Mux) (m : List ℕ) → Sound u → Sound (inspection u m .world .mux)

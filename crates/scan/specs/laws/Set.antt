@@ -4,7 +4,7 @@
 --   serviceWas             the services before K5: by the rule of 1974, without a set
 --   same-services          services that do the same at the port whose turn it is make the same inspection
 --   as-before              so by the 1974 set every inspection answers, and leaves record and memory, as it did without a set
--- Not here: the services themselves, in laws/Set of input and of output; a sweep, which is inspections (laws/Sweep of sweep).
+-- Not here: the services themselves, in laws/Set of input and of output; a sweep, in laws/Set of sweep.
 -- Assumes nothing.
 use mathlib.Core.Path.{_≡_, _∙_, ap, refl}
 use mathlib.Core.Bool.{Bool}

@@ -1,6 +1,6 @@
 -- The set of special codes in a setting and in a record (document 02, K5): setup keeps it, and no refusal asks it.
 --   choosing, chosen   a setting and a record with another set, all else the same
---   refusal-unread     no call's number depends on the set, setup's among them: nothing can be wrong with one
+--   withSets, refusal-unread   no call's number depends on the set, setup's among them: nothing can be wrong with one
 --   setup-unread       setups with different sets give the same reply, and records that differ in the set alone
 --   setup-keeps        a setup that is not refused makes a record with the set that it was given
 --   refused-ordinary   a refused one gives the record of zeros, in which no code is special
@@ -39,8 +39,8 @@ chosen codes u =
 -- ---- no refusal asks it
 
 -- what a call is given, with another set in its setting and in its record
-abbrev pub given : List Bool → List Bool → Given → Given
-given x y g =
+abbrev pub withSets : List Bool → List Bool → Given → Given
+withSets x y g =
     record {
       setting = Option·map (choosing x) (g .setting);
       unit = Option·map (chosen y) (g .unit);
@@ -51,14 +51,14 @@ given x y g =
     }
 
 -- the number of every call, whatever it is given
-pub refusal-unread : (x y : List Bool) (g : Given) → refusal (given x y g) ≡ refusal g
+pub refusal-unread : (x y : List Bool) (g : Given) → refusal (withSets x y g) ≡ refusal g
 unfolding refusal tableOf rowsOf callRows settingRows sizeRows baseRows areaRows unsound asked
 refusal-unread x y g = by (g .setting) (g .unit)
   where
     asks : Option Setting → Option Mux → Given
     asks s u = record { setting = s; unit = u; memory = g .memory; port = g .port; inspections = g .inspections; list = g .list }
 
-    by : (s : Option Setting) (u : Option Mux) → refusal (given x y (asks s u)) ≡ refusal (asks s u)
+    by : (s : Option Setting) (u : Option Mux) → refusal (withSets x y (asks s u)) ≡ refusal (asks s u)
     by none none = refl
     by none (some u) = refl
     by (some s) none = refl

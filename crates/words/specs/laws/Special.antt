@@ -6,7 +6,7 @@
 --   with-same, with-other       another word on one code: there it is that word, and on every other code what it was
 --   dictionary-bar, dictionary-others   in the dictionary's set octal 174 is ordinary, and every other code as in 1974
 --   ext-codes                   two sets of 128 places that say the same of every code are the same set
--- Not here: the definitions, in specs/Special; what becomes of a service by another set, in laws/Set of input, output and scan.
+-- Not here: the definitions, in specs/Special; what becomes of a service by another set, in laws/Set of input and output.
 -- Assumes nothing.
 use mathlib.Core.Path.{_≡_, _∙_, ap, refl, sym}
 use mathlib.Core.Bool.{Bool, true, false, or-true}
