@@ -2,7 +2,7 @@
 --   Refusals   every call answers by the table's number, and a refusal changes nothing
 --   Outcomes   any two outcomes that a contract allows are equal
 --   Places     no call changes the number of places of the array of ports
---   Set        the set of special codes is that of the last setup that was not refused; the lines and the processor do not read it
+--   Set        the set of special codes is that of the last setup that was not refused
 --   Singles    running a list of events is running the single things that it comes to
 --   Examples   the worked examples hold
 pub mod Refusals

@@ -16,7 +16,7 @@ use Rattle.words.specs.Field.{get}
 use Rattle.words.specs.Codes.{ASCII}
 use Rattle.words.specs.Pointer.{atEnd}
 use Rattle.words.specs.Special.{isSpecial, set1974, specialIn, withCode}
-use Rattle.words.specs.laws.Special.{default-set, with-other}
+use Rattle.words.specs.laws.Special.{default-set, default-but-one}
 use Rattle.unit.specs.declared.mux.Port.{Port}
 use Rattle.input.specs.Input.{ascii, inputPlan, inputService}
 use Rattle.input.specs.laws.Kept.{icwOf}
@@ -39,4 +39,4 @@ module _ (m : List ℕ) (a : ℕ) (q : Port) where
   default-same = as-before set1974 (default-set (q .ch .byte))
 
   pub others-same : (c : ℕ) (t : Bool) → q .ch .byte % 128 ≢ c % 128 → inputService (withCode set1974 c t) m a q ≡ inputBy atEnd isSpecial m a q
-  others-same c t n = as-before (withCode set1974 c t) (with-other set1974 c (q .ch .byte) t n ∙ default-set (q .ch .byte))
+  others-same c t n = as-before (withCode set1974 c t) (default-but-one c (q .ch .byte) t n)

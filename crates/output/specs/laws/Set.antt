@@ -16,7 +16,7 @@ use Rattle.words.specs.Field.{get}
 use Rattle.words.specs.Codes.{SPECIAL-REQUEST}
 use Rattle.words.specs.Pointer.{atEnd}
 use Rattle.words.specs.Special.{isSpecial, set1974, specialIn, withCode}
-use Rattle.words.specs.laws.Special.{default-set, with-other}
+use Rattle.words.specs.laws.Special.{default-set, default-but-one}
 use Rattle.unit.specs.declared.mux.Port.{Port}
 use Rattle.output.specs.Output.{autoPlan, outputPlan, outputService}
 use Rattle.output.specs.laws.Kept.{stepped}
@@ -39,4 +39,4 @@ module _ (m : List ℕ) (a : ℕ) (q : Port) where
   default-same = as-before set1974 (default-set (fetchedOf m a))
 
   pub others-same : (c : ℕ) (t : Bool) → fetchedOf m a % 128 ≢ c % 128 → outputService (withCode set1974 c t) m a q ≡ outputBy atEnd isSpecial m a q
-  others-same c t n = as-before (withCode set1974 c t) (with-other set1974 c (fetchedOf m a) t n ∙ default-set (fetchedOf m a))
+  others-same c t n = as-before (withCode set1974 c t) (default-but-one c (fetchedOf m a) t n)

@@ -4,7 +4,8 @@
 --   default-set, default-drawn  the 1974 set is that rule for every code; its 128 places
 --   seven-bits                  a set is asked for the low seven bits alone
 --   with-same, with-other       another word on one code: there it is that word, and on every other code what it was
---   dictionary-bar, dictionary-others   in the dictionary's set octal 174 is ordinary, and every other code as in 1974
+--   default-but-one             the 1974 set with another word on one code is the rule of 1974 for every other
+--   dictionary-bar, dictionary-others   so in the dictionary's set octal 174 is ordinary, and every other code as in 1974
 --   ext-codes                   two sets of 128 places that say the same of every code are the same set
 -- Not here: the definitions, in specs/Special; what becomes of a service by another set, in laws/Set of input and output.
 -- Assumes nothing.
@@ -64,12 +65,16 @@ pub with-other : (codes : List Bool) (c d : ℕ) (t : Bool) → d % 128 ≢ c % 
 unfolding specialIn withCode
 with-other codes c d t n = getD-set-other codes (c % 128) (d % 128) t false n
 
+-- the 1974 set with another word on c: the rule of 1974, of every other code
+pub default-but-one : (c d : ℕ) (t : Bool) → d % 128 ≢ c % 128 → specialIn (withCode set1974 c t) d ≡ isSpecial d
+default-but-one c d t n = with-other set1974 c d t n ∙ default-set d
+
 pub dictionary-bar : (c : ℕ) → c % 128 ≡ 0o174 → specialIn dictionarySet c ≡ false
 unfolding set1974
 dictionary-bar c e = with-same set1974 0o174 c false (tab-length 128 isSpecial) e
 
 pub dictionary-others : (c : ℕ) → c % 128 ≢ 0o174 → specialIn dictionarySet c ≡ isSpecial c
-dictionary-others c n = with-other set1974 0o174 c false n ∙ default-set c
+dictionary-others c n = default-but-one 0o174 c false n
 
 -- ---- a set is what it says
 
