@@ -1,5 +1,6 @@
 -- Any machine: states, acts, and a step from a state by an act to the next state.
 --   run, total, tally    the state after a list of acts; the sum of a number for each act; how many acts pass a test on the state they meet
+--   gather               what each act gives, one after the other
 --   Throughout, Until    what holds of every state met; an act of the list, up to which it holds
 --   Every                what holds of every act where it is met
 -- Not here: what follows, in laws/Machine.
@@ -24,6 +25,11 @@ module _ {S A : Type 0} (step : S → A → S) where
   -- how many acts pass a test on the state that they meet
   abbrev pub tally : (S → A → Bool) → S → List A → ℕ
   tally t s xs = total (λ r a. bit (t r a)) s xs
+
+  -- what each act gives at the state it meets, one after the other
+  unfoldable pub gather : {B : Type 0} → (S → A → List B) → S → List A → List B
+  gather f s [] = []
+  gather f s (a ∷ xs) = f s a ++ gather f (step s a) xs
 
   -- C holds of every state met, the first and the last among them
   abbrev pub Throughout : (S → Type 0) → S → List A → Type 0

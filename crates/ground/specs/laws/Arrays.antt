@@ -4,13 +4,15 @@
 --   map-all     all of them: the map of the list
 --   tab-length, getD-tab   a list by its rule: how long it is, and its elements
 --   tabTo       the first so many elements by the rule, the rest as they were: tab-none, tab-one, tab-all as above
+--   next, shift-last   every place takes the next one's element, and the last another
 -- Not here: lists in general, in the library (lib.Seq, lib.ListN).
 -- Assumes nothing.
-use mathlib.Core.Path.{_≡_, _∙_, refl, ap}
+use mathlib.Core.Path.{_≡_, _∙_, refl, sym, ap}
 use mathlib.Core.List.{List, [], _∷_, _++_, map, append-nil}
 use Prim.Native.Nat.{ℕ, zero, suc, _<_}
 use native.Mathlib.Nat.{le-of-suc-le-suc, not-suc-le-zero}
-use lib.ListN.{length, getD, set, drop}
+use native.Mathlib.Omega.{arith}
+use lib.ListN.{length, getD, set, drop, List·getD-eq-default}
 use lib.Seq.{drop-length}
 use Rattle.ground.specs.Tab.{tab}
 
@@ -70,3 +72,23 @@ module _ {A : Type 0} where
 
   pub tab-all : (f : ℕ → A) (xs : List A) → tabTo (length xs) f xs ≡ tab (length xs) f
   tab-all f xs = ap (λ (ys : List A). tab (length xs) f ++ ys) (drop-length xs) ∙ append-nil (tab (length xs) f)
+
+  -- the element of the next place, and d where there is none
+  abbrev pub next : A → List A → ℕ → A
+  next d xs k = getD xs (suc k) d
+
+  -- every place of a list with the next one's element: the list without its first, and d behind it
+  shift : (d x : A) (xs : List A) → tab (length (x ∷ xs)) (next d (x ∷ xs)) ≡ xs ++ (d ∷ [])
+  unfolding tab
+  shift d x [] = refl
+  shift d x (y ∷ ys) = ap (λ (zs : List A). y ∷ zs) (shift d y ys)
+
+  -- the same where every place but the last has it, and then the last is given d
+  pub shift-last : (n : ℕ) (d : A) (xs : List A) → length xs ≡ suc n → set (tabTo n (next d xs) xs) n d ≡ drop 1 xs ++ (d ∷ [])
+  shift-last n d [] e = absurd (omega (arith, e))
+  shift-last n d (x ∷ xs) e =
+      ap (λ (y : A). set (tabTo n (next d (x ∷ xs)) (x ∷ xs)) n y) (sym (List·getD-eq-default (x ∷ xs) d {n = suc n} (omega (arith, e))))
+      ∙ tab-one n (next d (x ∷ xs)) (x ∷ xs) (omega (arith, e))
+      ∙ ap (λ (k : ℕ). tabTo k (next d (x ∷ xs)) (x ∷ xs)) (sym e)
+      ∙ tab-all (next d (x ∷ xs)) (x ∷ xs)
+      ∙ shift d x xs

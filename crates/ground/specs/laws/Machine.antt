@@ -3,16 +3,19 @@
 --   total-add, -same     the sum of two numbers; numbers that agree at every act have one sum
 --   run-keeps            what every act keeps
 --   total-eq             what is spent, with what is left, is what is given, with what there was: if so for each act, then over the run
+--   gather-eq            what is taken, followed by what is left, is what there was, followed by what is given: if so for each act, then over the run
+--   gather-length        how long what is gathered is
 --   never .. until-map   a test that nothing passes; weaker readings of what holds on the way
 -- Not here: what a run and a sum over it are, in specs/Machine; places visited in rotation, in Rotation.
 -- Assumes nothing.
-use mathlib.Core.Path.{_≡_, refl, ap}
+use mathlib.Core.Path.{_≡_, refl, sym, _∙_, ap}
 use mathlib.Core.Bool.{false}
-use mathlib.Core.List.{List, [], _∷_, _++_}
+use mathlib.Core.List.{List, [], _∷_, _++_, append-nil, append-assoc}
 use Prim.Native.Nat.{ℕ, _+_, _≤_}
 use native.Mathlib.Omega.{arith}
+use lib.ListN.{length, length-append}
 use Rattle.ground.specs.Choose.{bit}
-use Rattle.ground.specs.Machine.{run, total, tally, Throughout, Until}
+use Rattle.ground.specs.Machine.{run, total, tally, gather, Throughout, Every, Until}
 
 module _ {S A : Type 0} (step : S → A → S) where
   -- ---- a list that is two lists
@@ -53,6 +56,27 @@ module _ {S A : Type 0} (step : S → A → S) where
   unfolding total
   total-same f g each s [] = refl
   total-same f g each s (a ∷ xs) = omega (arith, each s a, total-same f g each (step s a) xs)
+
+  -- ---- lists over a run
+
+  -- what is taken, followed by what is left, is what there was, followed by what is given: if so for each act that passes D where C holds, and such
+  -- an act keeps C
+  pub gather-eq : {B : Type 0} (C : S → Type 0) (D : S → A → Type 0) → ((s : S) (a : A) → D s a → C s → C (step s a)) → (taken given : S → A → List B) (left : S → List B) → ((s : S) (a : A) → D s a → C s → taken s a ++ left (step s a) ≡ left s ++ given s a) → (s : S) (xs : List A) → Every step D s xs → C s → gather step taken s xs ++ left (run step s xs) ≡ left s ++ gather step given s xs
+  unfolding run gather
+  gather-eq C D keeps taken given left each s [] d c = sym (append-nil (left s))
+  gather-eq {B} C D keeps taken given left each s (a ∷ xs) d c =
+      append-assoc (taken s a) (gather step taken (step s a) xs) (left (run step (step s a) xs))
+      ∙ ap (λ (l : List B). taken s a ++ l) (gather-eq C D keeps taken given left each (step s a) xs (d .1) (keeps s a (d .0) c))
+      ∙ sym (append-assoc (taken s a) (left (step s a)) (gather step given (step s a) xs))
+      ∙ ap (λ (l : List B). l ++ gather step given (step s a) xs) (each s a (d .0) c)
+      ∙ append-assoc (left s) (given s a) (gather step given (step s a) xs)
+
+  -- what is gathered is as long as its parts together
+  pub gather-length : {B : Type 0} (f : S → A → List B) (s : S) (xs : List A) → length (gather step f s xs) ≡ total step (λ r a. length (f r a)) s xs
+  unfolding gather total
+  gather-length f s [] = refl
+  gather-length f s (a ∷ xs) =
+      length-append (f s a) (gather step f (step s a) xs) ∙ ap (λ n. length (f s a) + n) (gather-length f (step s a) xs)
 
   -- ---- an act of a list
 
