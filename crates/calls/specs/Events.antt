@@ -1,12 +1,14 @@
 -- Lists of calls and host writes (document 01, what a proof here has to nail: "any list of calls and host writes").
 --   Event, happens, run    a call with the list that it is lent, or a host write; the world after one, and after a list
 --   Single, result, after  a single thing: a call that is no sweep, or a host write; what it answers and leaves
+--   NoSetup                a single thing that brings no new setting
 --   runSingles             the world after a list of single things
 --   singlesOf, singles     the single things that an event comes to where it happens, a sweep being the inspections that it makes
 --   single                 a single thing as an event
 --   counted                an inspection that counts
 -- Not here: that running events is running their single things, in laws/Singles; the other tests of a single thing, in waiting, Counting.
 -- Assumes nothing.
+use mathlib.Core.Path.{_≡_}
 use mathlib.Core.Bool.{Bool}
 use mathlib.Core.List.{List, [], _∷_, _++_}
 use Prim.Native.Nat.{ℕ}
@@ -14,6 +16,7 @@ use lib.ListN.{replicate}
 use Rattle.ground.specs.Machine
 use Rattle.unit.specs.declared.mux.Setting.{Setting}
 use Rattle.unit.specs.Reply.{counts, nothing, answered, World, world, Looked, looked}
+use Rattle.unit.specs.Refusals.{refusal, ofSetup}
 use Rattle.unit.specs.Setup.{setup}
 use Rattle.sweep.specs.Sweep.{sweep}
 use Rattle.calls.specs.declared.call.Act.{Act}
@@ -45,6 +48,12 @@ pub data Single : Type 0 where
   setsUp : (s : Setting) → Single
   does : (a : Act) → Single
   writes : (m : List ℕ) → Single
+
+-- no setup, or one that is refused
+abbrev pub NoSetup : Single → Type 0
+NoSetup (setsUp s) = refusal (ofSetup s) ≡ 0 → ⊥
+NoSetup (does a) = Unit {0}
+NoSetup (writes m) = Unit {0}
 
 -- what a single thing answers and leaves; a host write answers nothing
 unfoldable pub result : World → Single → Looked

@@ -19,13 +19,7 @@ use Rattle.processor.specs.laws.Processor.{order-setting}
 use Rattle.scan.specs.laws.Scan.{inspection-setting}
 use Rattle.calls.specs.declared.call.Act.the-variants.{Line, Processor, Inspect}
 use Rattle.calls.specs.Calls.{setUp, performed}
-use Rattle.calls.specs.Events.{Single, setsUp, does, writes, result, after, runSingles}
-
--- no setup, or one that is refused
-abbrev pub NoSetup : Single → Type 0
-NoSetup (setsUp s) = refusal (ofSetup s) ≡ 0 → ⊥
-NoSetup (does a) = Unit {0}
-NoSetup (writes m) = Unit {0}
+use Rattle.calls.specs.Events.{Single, NoSetup, setsUp, does, writes, result, after, runSingles}
 
 pub keeps-setting : (w : World) (a : Single) → NoSetup a → after w a .mux .setting ≡ w .mux .setting
 unfolding result performed setUp pick
