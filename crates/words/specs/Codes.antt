@@ -1,4 +1,5 @@
--- The one table of bit codes: document 01, and what it takes from the EDS-8 manual (001), the section beside each.
+-- The one table of bit codes: document 01, and what it takes from the EDS-8 manual (001), the section beside each; document 02, K6, with the Mighty
+-- Mux's manual (000).
 -- Bits are numbered from the top: bit 0 has weight 32768, bit 15 weight 1.
 --
 -- ICW, word 0 of a block (001, 4.1)
@@ -21,6 +22,11 @@
 --   +-----------+---------------+------------+-------------+--------------+---------------+
 --   | REAL-TIME | MORE-THAN-ONE | INPUT-DONE | OUTPUT-DONE | PORT-ADDRESS | STATUS-UNUSED |
 --   +-----------+---------------+------------+-------------+--------------+---------------+
+-- a Mighty Mux's status word (000, 2.4.7, Table 2-3): bits 2 to 15 are an entry of its stack, bits 0 and 1 stand beside the stack
+--         0             1              2            3         4 . . . . 10     11 . . . . 15
+--   +-----------+----------------+------------+-------------+--------------+---------------+
+--   | REAL-TIME | STACK-OVERFLOW | INPUT-DONE | OUTPUT-DONE | PORT-ADDRESS | STATUS-UNUSED |
+--   +-----------+----------------+------------+-------------+--------------+---------------+
 -- Words 4, 5, 6 and 7 of a block are IBP, OBP, LIB and LOB, whole byte addresses (001, 4.3 to 4.6).
 -- Not here: that the fields of a word leave nothing out, and that the bytes of 7-bit ASCII mode are bytes, in laws/Codes.
 -- Assumes nothing.
@@ -195,7 +201,7 @@ SPEED = bits 13 15
 
 -- ---- the status word
 
--- bit 0: the 10 ms clock (4.7 bit 0)
+-- bit 0: the 10 ms clock (4.7 bit 0; 000, Table 2-3 bit 0)
 abbrev pub REAL-TIME : Field
 REAL-TIME = bits 0 0
 
@@ -203,19 +209,23 @@ REAL-TIME = bits 0 0
 abbrev pub MORE-THAN-ONE : Field
 MORE-THAN-ONE = bits 1 1
 
--- bit 2: input done (4.7 bit 2)
+-- bit 1 of a Mighty Mux: an interrupt found the stack full (000, Table 2-3 bit 1; docs/DECISIONS.md)
+abbrev pub STACK-OVERFLOW : Field
+STACK-OVERFLOW = bits 1 1
+
+-- bit 2: input done (4.7 bit 2; 000, Table 2-3 bit 2)
 abbrev pub INPUT-DONE : Field
 INPUT-DONE = bits 2 2
 
--- bit 3: output done (4.7 bit 3)
+-- bit 3: output done (4.7 bit 3; 000, Table 2-3 bit 3)
 abbrev pub OUTPUT-DONE : Field
 OUTPUT-DONE = bits 3 3
 
--- bits 4 to 10: the address of the port that was done last (4.7 bits 4 to 10)
+-- bits 4 to 10: the address of the port that was done last, or whose entry it is (4.7 bits 4 to 10; 000, Table 2-3 bits 4 to 10)
 abbrev pub PORT-ADDRESS : Field
 PORT-ADDRESS = bits 4 10
 
--- bits 11 to 15: 0 (document 01, Interrupt)
+-- bits 11 to 15: 0 (document 01, Interrupt; 000, Table 2-3 bits 11 to 15)
 abbrev pub STATUS-UNUSED : Field
 STATUS-UNUSED = bits 11 15
 

@@ -107,13 +107,19 @@ pub const LENGTH: Field = Field { unit: 16, span: 4 };
 
 pub const SPEED: Field = Field { unit: 1, span: 8 };
 
-// The status word (001, section 4.7).
+// The status word (001, section 4.7), and a Mighty Mux's, whose stack has an entry for each interrupt (000, section 2.4.7, Table 2-3).
 pub const REAL_TIME: Field = Field {
     unit: 32768,
     span: 2,
 };
 
 pub const MORE_THAN_ONE: Field = Field {
+    unit: 16384,
+    span: 2,
+};
+
+// The same bit of a Mighty Mux (000, section 2.4.7, Table 2-3).
+pub const STACK_OVERFLOW: Field = Field {
     unit: 16384,
     span: 2,
 };

@@ -15,7 +15,7 @@ use lib.Dec.{T, ltb, lit<}
 use Rattle.ground.specs.Choose.{pick}
 use Rattle.words.specs.declared.field.Field.{Field}
 use Rattle.words.specs.Field.{get}
-use Rattle.words.specs.Codes.{INDONE, INMO, inSingle, inNone, inAuto, inEcho, ASCII, FLAGS, flagNone, flagParity, flagOverload, flagBreak, NOT-ECHOED, SERVICE-OVERLOAD, CHARACTER, storedByte, wordByte, OUTDONE, OUTMO, outNone, outAuto, outControl, outSingle, SPECIAL-REQUEST, DEVICE-CONTROL, DEVICE-STATUS, PREVIOUS-STATUS, UNUSED, STATUS-CHANGED, PARITY-INHIBIT, STOP-BAUDS, LENGTH, EVEN-PARITY, SPEED, REAL-TIME, MORE-THAN-ONE, INPUT-DONE, OUTPUT-DONE, PORT-ADDRESS, STATUS-UNUSED, LEFT, RIGHT}
+use Rattle.words.specs.Codes.{INDONE, INMO, inSingle, inNone, inAuto, inEcho, ASCII, FLAGS, flagNone, flagParity, flagOverload, flagBreak, NOT-ECHOED, SERVICE-OVERLOAD, CHARACTER, storedByte, wordByte, OUTDONE, OUTMO, outNone, outAuto, outControl, outSingle, SPECIAL-REQUEST, DEVICE-CONTROL, DEVICE-STATUS, PREVIOUS-STATUS, UNUSED, STATUS-CHANGED, PARITY-INHIBIT, STOP-BAUDS, LENGTH, EVEN-PARITY, SPEED, REAL-TIME, MORE-THAN-ONE, STACK-OVERFLOW, INPUT-DONE, OUTPUT-DONE, PORT-ADDRESS, STATUS-UNUSED, LEFT, RIGHT}
 
 -- ---- each word is its fields side by side
 
@@ -86,6 +86,10 @@ status-drawn w h =
     ∙ next OUTPUT-DONE _ w tt tt
     ∙ next PORT-ADDRESS _ w tt tt
     ∙ last STATUS-UNUSED _ w refl
+
+-- bit 1 of the status word has two names, one for each kind of unit (4.7 bit 1; 000, Table 2-3 bit 1): so a Mighty Mux's word is drawn as well
+pub bit-1 : STACK-OVERFLOW ≡ MORE-THAN-ONE
+bit-1 = refl
 
 -- a word of a buffer
 pub halves-drawn : (w : ℕ) → w < 65536 → w ≡ get LEFT w * 256 + get RIGHT w
