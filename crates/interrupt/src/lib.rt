@@ -1,15 +1,19 @@
-// The interrupt side of the unit: the flag and the status word, and all that changes them. No crate of the multiplexer reads or writes inside it; the digests and pokes of driver do.
-use words::codes::INPUT_DONE;
-use words::codes::MORE_THAN_ONE;
-use words::codes::OUTPUT_DONE;
-use words::codes::PORT_ADDRESS;
+// The interrupt side of the unit: the flag, and the status word of an EDS-8 or the stack of a Mighty Mux, and all that changes them. No crate of the multiplexer reads or writes inside it; the digests and pokes of driver do.
+pub mod stack;
+pub mod status;
+
+use crate::stack::DEPTH;
 use words::codes::REAL_TIME;
-use words::codes::STATUS_UNUSED;
-use words::field::is_set;
 use words::field::put;
 ghost use mathlib.Core.Path.{_≡_};
 ghost use Prim.Native.Nat.{_<_};
-ghost use Rattle.interrupt.specs.Interrupt.{fresh, cleared, unsound, busy, moreMarked, serviceMarked, statusAfter, raised, started, ticked, shown};
+ghost use Rattle.interrupt.specs.Interrupt.{fresh, cleared, unsound, merged, raised, quieted, started, ticked, shown};
+
+// The two kinds of unit.
+pub enum Kind {
+    Eds8,
+    MightyMux,
+}
 
 // The two services of a port, each of which may raise an interrupt.
 pub enum Service {
@@ -17,19 +21,25 @@ pub enum Service {
     Output,
 }
 
-// The interrupt flag and the status word.
+// The interrupt flag and the status word; of a Mighty Mux the lost mark, how many entries are stacked, and the stack, the oldest entry first.
 pub struct Irq {
     pub flag: bool,
     pub status: u16,
+    pub lost: bool,
+    pub fill: u32,
+    pub stack: [u16; 40],
 }
 
-// A new unit's: flag and status 0.
+// A new unit's, of either kind: flag and status 0, nothing lost, no entry.
 pub fn fresh() -> Irq
     ensures { λ r. ⌜ r ≡ fresh ⌝ }
 {
     Irq {
         flag: false,
         status: 0,
+        lost: false,
+        fill: 0,
+        stack: [0; 40],
     }
 }
 
@@ -40,68 +50,53 @@ pub fn cleared(i: Irq) -> Irq
     fresh()
 }
 
-// Whether it is one that no unit can have: this part of row 6 never applies, for every flag goes with every word.
+// Whether it is one that no unit can have: more entries than the stack has places, of either kind.
 pub fn unsound(i: Irq) -> bool
     ensures { λ r. ⌜ r ≡ unsound i ⌝ }
 {
-    false
+    DEPTH < i.fill
 }
 
-// Whether some port was done since START.
-fn busy(w: u16) -> bool
-    ensures { λ r. ⌜ r ≡ busy w ⌝ }
-{
-    if is_set(w, INPUT_DONE) {
-        return true;
-    }
-    is_set(w, OUTPUT_DONE)
-}
-
-// Bit 1, where some port was done since START.
-fn more_marked(w: u16) -> u16
-    ensures { λ r. ⌜ r ≡ moreMarked w ⌝ }
-{
-    if busy(w) {
-        return put(w, MORE_THAN_ONE, 1);
-    }
-    w
-}
-
-// Bit 2 for input, bit 3 for output.
-fn service_marked(w: u16, s: Service) -> u16
-    ensures { λ r. ⌜ r ≡ serviceMarked s w ⌝ }
-{
-    match s {
-        Service::Input => put(w, INPUT_DONE, 1),
-        Service::Output => put(w, OUTPUT_DONE, 1),
-    }
-}
-
-// The status word after the port of that address was done.
-fn status_after(w: u16, s: Service, address: u16) -> u16
+// An interrupt of an EDS-8: the status word takes it up.
+fn merge(i: Irq, s: Service, address: u16) -> Irq
     requires { ⌜ address < 128 ⌝ }
-    ensures { λ r. ⌜ r ≡ statusAfter s address w ⌝ }
-{
-    let marked = service_marked(more_marked(w), s);
-    put(put(marked, PORT_ADDRESS, address), STATUS_UNUSED, 0)
-}
-
-// An interrupt raised by the port of that address.
-pub fn raise(i: Irq, s: Service, address: u16) -> Irq
-    requires { ⌜ address < 128 ⌝ }
-    ensures { λ r. ⌜ r ≡ raised s address i ⌝ }
+    ensures { λ r. ⌜ r ≡ merged s address i ⌝ }
 {
     let mut v = i;
     v.flag = true;
-    v.status = status_after(i.status, s, address);
+    v.status = status::status_after(i.status, s, address);
+    v
+}
+
+// An interrupt raised by the port of that address.
+pub fn raise(k: Kind, i: Irq, s: Service, address: u16) -> Irq
+    requires { ⌜ address < 128 ⌝ }
+    ensures { λ r. ⌜ r ≡ raised k s address i ⌝ }
+{
+    match k {
+        Kind::Eds8 => merge(i, s, address),
+        Kind::MightyMux => stack::push(i, stack::entry(s, address)),
+    }
+}
+
+// START of an EDS-8.
+fn quiet(i: Irq) -> Irq
+    ensures { λ r. ⌜ r ≡ quieted i ⌝ }
+{
+    let mut v = i;
+    v.flag = false;
+    v.status = 0;
     v
 }
 
 // START.
-pub fn start(i: Irq) -> Irq
-    ensures { λ r. ⌜ r ≡ started i ⌝ }
+pub fn start(k: Kind, i: Irq) -> Irq
+    ensures { λ r. ⌜ r ≡ started k i ⌝ }
 {
-    fresh()
+    match k {
+        Kind::Eds8 => quiet(i),
+        Kind::MightyMux => stack::pop(i),
+    }
 }
 
 // A tick with the clock on.
@@ -115,8 +110,11 @@ pub fn tick(i: Irq) -> Irq
 }
 
 // What DIA returns.
-pub fn dia(i: Irq) -> u16
-    ensures { λ r. ⌜ r ≡ shown i ⌝ }
+pub fn dia(k: Kind, i: Irq) -> u16
+    ensures { λ r. ⌜ r ≡ shown k i ⌝ }
 {
-    i.status
+    match k {
+        Kind::Eds8 => i.status,
+        Kind::MightyMux => stack::top(i),
+    }
 }

@@ -1,4 +1,4 @@
--- `interrupt::unsound` meets its contract: nothing is unsound.
+-- `interrupt::unsound` meets its contract: the code is the definition.
 use mathlib.Core.Path.{refl}
 use Rattle.interrupt.proofs.unsound.Statement.{statement}
 use Rattle.interrupt.specs.Interrupt.{unsound}

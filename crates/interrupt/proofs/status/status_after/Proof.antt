@@ -1,8 +1,8 @@
--- `interrupt::status_after` meets its contract, step by step.
+-- `interrupt::status::status_after` meets its contract, step by step.
 use borrow.Author.Needs.{needs}
-use Rattle.interrupt.proofs.status_after.Statement.{statement}
-use Rattle.interrupt.specs.Interrupt.{statusAfter}
-use Rattle.interrupt.proofs.status_after.Tie as tie
+use Rattle.interrupt.proofs.status.status_after.Statement.{statement}
+use Rattle.interrupt.specs.Status.{statusAfter}
+use Rattle.interrupt.proofs.status.status_after.Tie as tie
 
 returns : tie.Need-returns
 unfolding statusAfter

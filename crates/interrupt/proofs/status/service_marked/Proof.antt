@@ -1,8 +1,8 @@
--- `interrupt::service_marked` meets its contract, case by case.
+-- `interrupt::status::service_marked` meets its contract, case by case.
 use borrow.Author.Needs.{needs}
-use Rattle.interrupt.proofs.service_marked.Statement.{statement}
-use Rattle.interrupt.specs.Interrupt.{serviceMarked}
-use Rattle.interrupt.proofs.service_marked.Tie as tie
+use Rattle.interrupt.proofs.status.service_marked.Statement.{statement}
+use Rattle.interrupt.specs.Status.{serviceMarked}
+use Rattle.interrupt.proofs.status.service_marked.Tie as tie
 
 returns : tie.Need-returns
 unfolding serviceMarked

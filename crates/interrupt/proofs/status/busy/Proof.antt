@@ -1,8 +1,8 @@
--- `interrupt::busy` meets its contract, test by test.
+-- `interrupt::status::busy` meets its contract, test by test.
 use borrow.Author.Needs.{needs}
-use Rattle.interrupt.proofs.busy.Statement.{statement}
-use Rattle.interrupt.specs.Interrupt.{busy}
-use Rattle.interrupt.proofs.busy.Tie as tie
+use Rattle.interrupt.proofs.status.busy.Statement.{statement}
+use Rattle.interrupt.specs.Status.{busy}
+use Rattle.interrupt.proofs.status.busy.Tie as tie
 
 returns : tie.Need-returns
 unfolding busy

@@ -1,9 +1,9 @@
--- `interrupt::more_marked` meets its contract, case by case.
+-- `interrupt::status::more_marked` meets its contract, case by case.
 use borrow.Author.Needs.{needs}
-use Rattle.interrupt.proofs.more_marked.Statement.{statement}
+use Rattle.interrupt.proofs.status.more_marked.Statement.{statement}
 use Rattle.ground.specs.Choose.{pick}
-use Rattle.interrupt.specs.Interrupt.{moreMarked}
-use Rattle.interrupt.proofs.more_marked.Tie as tie
+use Rattle.interrupt.specs.Status.{moreMarked}
+use Rattle.interrupt.proofs.status.more_marked.Tie as tie
 
 returns : tie.Need-returns
 unfolding moreMarked pick
