@@ -1,4 +1,5 @@
--- The record of the unit (document 01, the unit and the host's memory; document 02, K5: the set of special codes in its setting).
+-- The record of the unit (document 01, the unit and the host's memory; document 02, K5 and K6: the set of special codes and the kind of
+-- unit in its setting).
 --   noCharacter, noPort, noSetting, noMux   all zeros
 --   portAt, remade, withPort                a port of the record, the record with other parts, and with another port in its place
 --   freshPort, fresh                        what setup makes
@@ -9,6 +10,7 @@ use mathlib.Core.Bool.{Bool, true, false}
 use mathlib.Core.List.{List}
 use Prim.Native.Nat.{ℕ, _+_, _*_, _/_, _%_}
 use lib.ListN.{getD, set, replicate}
+use Rattle.interrupt.specs.declared.Kind.the-variants.{Eds8}
 use Rattle.interrupt.specs.declared.Irq.{Irq}
 use Rattle.interrupt.specs.Interrupt as Interrupt
 use Rattle.unit.specs.declared.mux.Setting.{Setting}
@@ -24,15 +26,15 @@ noCharacter = record { byte = 0; parity = false; brk = false; overload = false }
 abbrev pub noPort : Port
 noPort = record { held = false; ch = noCharacter; empty = false; control = 0; devcontrol = false; devstatus = false }
 
--- a setting of zeros: its set has a no for each of the 128 codes
+-- a setting of zeros: an EDS-8's, and its set has a no for each of the 128 codes
 abbrev pub noSetting : Setting
-noSetting = record { block = 0; ports = 0; base = 0; special = replicate 128 false }
+noSetting = record { kind = Eds8; block = 0; ports = 0; base = 0; special = replicate 128 false }
 
 -- a port of a fresh unit: nothing held, transmitter empty, control bits 0, Device Control 1, Device Status 0
 abbrev pub freshPort : Port
 freshPort = record { held = false; ch = noCharacter; empty = true; control = 0; devcontrol = true; devstatus = false }
 
--- a fresh unit: stopped, clock off, flag and status 0, position 0
+-- a fresh unit: stopped, clock off, flag and status 0 and no entry, position 0
 abbrev pub fresh : Setting → Mux
 fresh s =
     record

@@ -7,6 +7,7 @@
 --   Replies    the number of each answer; what a refused call leaves, and one that is not
 --   Ports      the ports of a record
 --   Set        the set of special codes in the setting and the record: setup keeps it, and no refusal asks it
+--   Kind       the kind of unit in them: setup keeps it; a record with more than 40 entries is refused, of either kind
 pub mod Refusals
 pub mod Sound
 pub mod Tables
@@ -15,3 +16,4 @@ pub mod Base
 pub mod Replies
 pub mod Ports
 pub mod Set
+pub mod Kind

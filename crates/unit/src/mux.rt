@@ -1,13 +1,15 @@
 // The record of the unit and its ports (document 01, the unit and the host's memory), and where a port's control block lies.
 use interrupt::Irq;
+use interrupt::Kind;
 ghost use mathlib.Core.Path.{_≡_};
 ghost use Prim.Native.Nat.{_<_};
 ghost use Rattle.ground.specs.Choose.{Below};
 ghost use Rattle.unit.specs.Record.{portAt, withPort, blockAt, addressAt};
 ghost use Rattle.unit.specs.Sound.{Fits};
 
-// What setup takes: block size, P, base, and the set of special codes, a yes or no for each of the 128 seven-bit codes.
+// What setup takes: the kind of unit, block size, P, base, and the set of special codes, a yes or no for each of the 128 seven-bit codes.
 pub struct Setting {
+    pub kind: Kind,
     pub block: u32,
     pub ports: u32,
     pub base: u32,

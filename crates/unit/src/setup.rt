@@ -7,6 +7,7 @@ use crate::refusal::setup_code;
 use crate::reply::Replied;
 use crate::reply::accepted;
 use crate::reply::refused;
+use interrupt::Kind;
 ghost use mathlib.Core.Path.{_≡_};
 ghost use Rattle.unit.specs.Record.{noCharacter, noPort, freshPort, noSetting, fresh, noMux};
 ghost use Rattle.unit.specs.Setup.{setup};
@@ -47,11 +48,12 @@ fn fresh_port() -> Port
     q
 }
 
-// A setting of zeros.
+// A setting of zeros, which is an EDS-8's.
 pub fn no_setting() -> Setting
     ensures { λ r. ⌜ r ≡ noSetting ⌝ }
 {
     Setting {
+        kind: Kind::Eds8,
         block: 0,
         ports: 0,
         base: 0,

@@ -90,7 +90,7 @@ calls-unchanged = same-calls rowsWithFive same-pass
 -- ---- what it rests on
 
 abbrev of : ℕ → ℕ → ℕ → Setting
-of b n a = record { block = b; ports = n; base = a; special = noSetting .special }
+of b n a = record { kind = noSetting .kind; block = b; ports = n; base = a; special = noSetting .special }
 
 -- a table without the rows of one number
 abbrev without : ℕ → List Row → List Row

@@ -29,7 +29,7 @@ use Rattle.unit.specs.laws.Replies.{setup-accepted, setup-refused}
 
 -- the setting with another set
 abbrev pub choosing : List Bool → Setting → Setting
-choosing codes s = record { block = s .block; ports = s .ports; base = s .base; special = codes }
+choosing codes s = record { kind = s .kind; block = s .block; ports = s .ports; base = s .base; special = codes }
 
 -- the record with another set
 abbrev pub chosen : List Bool → Mux → Mux
