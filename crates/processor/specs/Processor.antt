@@ -1,4 +1,4 @@
--- What the processor does (document 01, of that name; 001, 5).
+-- What the processor does (document 01, of that name; document 02, K6; 001, 5; 000, 2.5).
 --   resetPort, resetUnit   reset
 --   switched               the other orders change only switches and the interrupt side
 --   valueOf, after         what each order returns, and the record after it
@@ -12,6 +12,7 @@ use Prim.Native.Nat.{ℕ}
 use Rattle.ground.specs.Choose.{pick}
 use Rattle.words.specs.Field.{put}
 use Rattle.words.specs.Codes.{SPEED}
+use Rattle.interrupt.specs.declared.Kind.{Kind}
 use Rattle.interrupt.specs.declared.Irq.{Irq}
 use Rattle.interrupt.specs.Interrupt as Interrupt
 use Rattle.unit.specs.declared.mux.Port.{Port}
@@ -35,7 +36,7 @@ resetPort q =
       devstatus = q .devstatus;
     }
 
--- unit and clock off, flag and status 0, position 0, every port reset
+-- unit and clock off, flag and status 0 and no entry, position 0, every port reset
 abbrev pub resetUnit : Mux → Mux
 resetUnit u = remade u 0 false false (Interrupt.cleared (u .irq)) (map resetPort (u .port))
 
@@ -43,32 +44,33 @@ resetUnit u = remade u 0 false false (Interrupt.cleared (u .irq)) (map resetPort
 abbrev pub switched : Mux → Bool → Bool → Irq → Mux
 switched u runs clock irq = remade u (u .pos) runs clock irq (u .port)
 
--- the further result: DIA returns the status word; DIAS returns it, as it was before its START
-abbrev pub valueOf : Order → Irq → ℕ
-valueOf Reset i = 0
-valueOf Iopls i = 0
-valueOf Start i = 0
-valueOf Doc i = 0
-valueOf Dob i = 0
-valueOf Dia i = Interrupt.shown i
-valueOf Dias i = Interrupt.shown i
-valueOf Tick i = 0
+-- the further result: DIA returns the status word, or a Mighty Mux's oldest entry; DIAS returns it, as it was before its START
+abbrev pub valueOf : Order → Kind → Irq → ℕ
+valueOf Reset k i = 0
+valueOf Iopls k i = 0
+valueOf Start k i = 0
+valueOf Doc k i = 0
+valueOf Dob k i = 0
+valueOf Dia k i = Interrupt.shown k i
+valueOf Dias k i = Interrupt.shown k i
+valueOf Tick k i = 0
 
--- the record after the order. IOPLS: clock on. START, and DIAS when it has read: flag and status 0. DOC: the unit runs. DOB: it stops.
+-- the record after the order. IOPLS: clock on. START, and DIAS when it has read: flag and status 0, or a Mighty Mux's
+-- oldest entry removed. DOC: the unit runs. DOB: it stops.
 -- A tick: with the clock on status bit 0 and the flag, with it off nothing
 unfoldable pub after : Order → Mux → Mux
 after Reset u = resetUnit u
 after Iopls u = switched u (u .runs) true (u .irq)
-after Start u = switched u (u .runs) (u .clock) (Interrupt.started (u .irq))
+after Start u = switched u (u .runs) (u .clock) (Interrupt.started (u .setting .kind) (u .irq))
 after Doc u = switched u true (u .clock) (u .irq)
 after Dob u = switched u false (u .clock) (u .irq)
 after Dia u = u
-after Dias u = switched u (u .runs) (u .clock) (Interrupt.started (u .irq))
+after Dias u = switched u (u .runs) (u .clock) (Interrupt.started (u .setting .kind) (u .irq))
 after Tick u = switched u (u .runs) (u .clock) (pick (u .clock) (Interrupt.ticked (u .irq)) (u .irq))
 
 -- an order of the processor's
 unfoldable pub order : Mux → Order → Replied
-order u o = guarded (refusal (ofUnit u)) u (accepted (valueOf o (u .irq)) (after o u))
+order u o = guarded (refusal (ofUnit u)) u (accepted (valueOf o (u .setting .kind) (u .irq)) (after o u))
 
 -- the order that drops what the ports hold
 abbrev pub isReset : Order → Bool

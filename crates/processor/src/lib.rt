@@ -3,6 +3,7 @@ pub mod orders;
 
 use crate::orders::Order;
 use interrupt::Irq;
+use interrupt::Kind;
 use unit::mux::Mux;
 use unit::mux::Port;
 use unit::refusal::sound_code;
@@ -78,9 +79,9 @@ fn clocked(clock: bool, i: Irq) -> Irq
     i
 }
 
-// What the order returns beside its number: DIA and DIAS the status word as they find it, the others 0.
-fn value_of(o: Order, i: Irq) -> u16
-    ensures { λ r. ⌜ r ≡ valueOf o i ⌝ }
+// What the order returns beside its number: DIA and DIAS the status word, or the oldest entry, as they find it, the others 0.
+fn value_of(o: Order, k: Kind, i: Irq) -> u16
+    ensures { λ r. ⌜ r ≡ valueOf o k i ⌝ }
 {
     match o {
         Order::Reset => 0,
@@ -88,8 +89,8 @@ fn value_of(o: Order, i: Irq) -> u16
         Order::Start => 0,
         Order::Doc => 0,
         Order::Dob => 0,
-        Order::Dia => interrupt::dia(i),
-        Order::Dias => interrupt::dia(i),
+        Order::Dia => interrupt::dia(k, i),
+        Order::Dias => interrupt::dia(k, i),
         Order::Tick => 0,
     }
 }
@@ -98,15 +99,17 @@ fn value_of(o: Order, i: Irq) -> u16
 fn after(u: Mux, o: Order) -> Mux
     ensures { λ r. ⌜ r ≡ after o u ⌝ }
 {
+    let s = u.setting;
+    let k = s.kind;
     let i = u.irq;
     match o {
         Order::Reset => reset_unit(u),
         Order::Iopls => switched(u, u.runs, true, i),
-        Order::Start => switched(u, u.runs, u.clock, interrupt::start(i)),
+        Order::Start => switched(u, u.runs, u.clock, interrupt::start(k, i)),
         Order::Doc => switched(u, true, u.clock, i),
         Order::Dob => switched(u, false, u.clock, i),
         Order::Dia => u,
-        Order::Dias => switched(u, u.runs, u.clock, interrupt::start(i)),
+        Order::Dias => switched(u, u.runs, u.clock, interrupt::start(k, i)),
         Order::Tick => switched(u, u.runs, u.clock, clocked(u.clock, i)),
     }
 }
@@ -119,6 +122,8 @@ pub fn order(u: Mux, o: Order) -> Replied
     if code != 0 {
         return refused(code, u);
     }
+    let s = u.setting;
+    let k = s.kind;
     let i = u.irq;
-    accepted(value_of(o, i), after(u, o))
+    accepted(value_of(o, k, i), after(u, o))
 }

@@ -14,7 +14,7 @@ returns c = simp (← c .before .before .sound-code .ensures, ne-eqb _ _ (c .bef
 returns-2 : tie.Need-returns-2
 unfolding order guarded pick
 returns-2 c =
-    simp (← c .before .before .before .before .before .sound-code .ensures, eq-eqb _ _ (c .before .before .before .before .if1 .left))
+    simp (← c .before .before .before .before .before .before .sound-code .ensures, eq-eqb _ _ (c .before .before .before .before .before .if1 .left))
     (rw (c .accepted .ensures, c .before .after .ensures, c .before .before .value-of .ensures))
 
 pub order-spec : {M : Type 1} → statement M

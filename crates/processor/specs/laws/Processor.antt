@@ -9,7 +9,8 @@
 --                                 Status line kept
 --   stops, runs-on, runs-after    of a unit that runs: DOB and reset stop it, and no other order does
 --   dob-is, doc-is                DOB stops a unit, DOC sets it going
---   dia-shows, start-clears, dias-is   DIA shows the status word; START clears it and the flag; DIAS is DIA, then START
+--   dia-shows, start-is, dias-is   DIA shows what the unit's kind shows; START does what its kind does; DIAS is DIA, then START
+--   start-clears, start-removes   START of an EDS-8 clears what DIA shows, and the flag; that of a Mighty Mux removes its oldest entry
 --   tick-on, tick-off             a tick with the clock on and with it off
 -- Not here: laws of the interrupt side itself, in interrupt, laws/Interrupt; a run of many orders, in waiting.
 -- Assumes nothing.
@@ -24,11 +25,15 @@ use lib.ListN.{length, getD, length-map}
 use Rattle.ground.specs.Choose.{pick}
 use Rattle.ground.specs.laws.Rows.{pick-true, pick-false}
 use Rattle.words.specs.Field.{get, bits, Whole}
-use Rattle.words.specs.Codes.{SPEED}
+use Rattle.words.specs.Codes.{SPEED, REAL-TIME}
 use Rattle.words.specs.laws.Field.{whole, get-put, get-put-above}
+use Rattle.interrupt.specs.declared.Kind.the-variants.{Eds8, MightyMux}
 use Rattle.interrupt.specs.declared.Irq.{Irq}
 use Rattle.interrupt.specs.Interrupt as Interrupt
 use Rattle.interrupt.specs.laws.Interrupt as Irqs
+use Rattle.interrupt.specs.Stack.{remain}
+use Rattle.interrupt.specs.laws.Stack.{start-flag}
+use Rattle.interrupt.specs.laws.Shown.{start-clock}
 use Rattle.unit.specs.declared.mux.Port.{Port}
 use Rattle.unit.specs.declared.mux.Mux.{Mux}
 use Rattle.unit.specs.Record.{noPort, portAt}
@@ -50,12 +55,12 @@ unfolding order
 order-refused u o h = guarded-refused _ u _ h
 
 -- an order that is not refused gives its result and the record after it
-pub order-accepted : (u : Mux) (o : Order) → refusal (ofUnit u) ≡ 0 → order u o ≡ accepted (valueOf o (u .irq)) (after o u)
+pub order-accepted : (u : Mux) (o : Order) → refusal (ofUnit u) ≡ 0 → order u o ≡ accepted (valueOf o (u .setting .kind) (u .irq)) (after o u)
 unfolding order
 order-accepted u o e = guarded-accepted _ u _ e
 
 -- a sound record's order is done
-pub order-sound : (u : Mux) (o : Order) → Sound u → order u o ≡ accepted (valueOf o (u .irq)) (after o u)
+pub order-sound : (u : Mux) (o : Order) → Sound u → order u o ≡ accepted (valueOf o (u .setting .kind) (u .irq)) (after o u)
 order-sound u o s = order-accepted u o (sound-iff u .1 s)
 
 -- what holds of the record itself and of the record after the order holds of the record that the call gives
@@ -92,11 +97,11 @@ reset-or-keeps u = each
     each : (o : Order) → (o ≡ Reset) ⊎ Keeps u (after o u)
     each Reset = inl refl
     each Iopls = inr (switches _ _ _ (λ e. e))
-    each Start = inr (switches _ _ _ (Irqs.started-sound (u .irq)))
+    each Start = inr (switches _ _ _ (Irqs.started-sound (u .setting .kind) (u .irq)))
     each Doc = inr (switches _ _ _ (λ e. e))
     each Dob = inr (switches _ _ _ (λ e. e))
     each Dia = inr (keeps-same u)
-    each Dias = inr (switches _ _ _ (Irqs.started-sound (u .irq)))
+    each Dias = inr (switches _ _ _ (Irqs.started-sound (u .setting .kind) (u .irq)))
     each Tick = inr (switches _ _ _ (ticks (u .clock) (u .irq)))
 
 -- reset is the one order that drops what is held
@@ -148,7 +153,7 @@ after-unread codes u Tick = refl
 pub order-unread : (codes : List Bool) (u : Mux) (o : Order) → order (chosen codes u) o ≡ again codes (order u o)
 unfolding order
 order-unread codes u o =
-    rw (refusal-unread codes codes (ofUnit u), after-unread codes u o) (guarded-unread codes (refusal (ofUnit u)) u (accepted (valueOf o (u .irq)) (after o u)))
+    rw (refusal-unread codes codes (ofUnit u), after-unread codes u o) (guarded-unread codes (refusal (ofUnit u)) u (accepted (valueOf o (u .setting .kind) (u .irq)) (after o u)))
 
 -- what keeps is as sound as it was
 pub keeps-sound : (u v : Mux) → Keeps u v → Sound u → Sound v
@@ -270,7 +275,7 @@ doc-is u s = order-sound u Doc s
 -- ---- DIA, START, DIAS, the tick
 
 -- what DIA shows of a sound record, which it leaves as it was
-pub dia-shows : (u : Mux) → Sound u → order u Dia ≡ accepted (Interrupt.shown (u .irq)) u
+pub dia-shows : (u : Mux) → Sound u → order u Dia ≡ accepted (Interrupt.shown (u .setting .kind) (u .irq)) u
 unfolding after
 dia-shows u s = order-sound u Dia s
 
@@ -279,16 +284,38 @@ pub record Calm (u : Mux) : Type 0 where
   pub shows : order u Dia .reply .value ≡ 0
   pub flag : u .irq .flag ≡ false
 
--- START clears what DIA shows, and the flag
-pub start-clears : (u : Mux) → Sound u → Calm (order u Start .mux)
+-- START is taken by a sound unit, and does to its interrupt side what its kind does
+pub start-is : (u : Mux) → Sound u → order u Start ≡ accepted 0 (switched u (u .runs) (u .clock) (Interrupt.started (u .setting .kind) (u .irq)))
 unfolding after
-start-clears u s =
-    let e = order-sound u Start s in
+start-is u s = order-sound u Start s
+
+-- what DIA shows after it
+start-shows : (u : Mux) → Sound u → order (order u Start .mux) Dia .reply .value ≡ Interrupt.shown (u .setting .kind) (Interrupt.started (u .setting .kind) (u .irq))
+start-shows u s =
+    ap (λ r. r .reply .value) (dia-shows (order u Start .mux) (order-stays-sound u Start s))
+    ∙ ap (λ r. Interrupt.shown (r .mux .setting .kind) (r .mux .irq)) (start-is u s)
+
+-- START of an EDS-8 clears what DIA shows, and the flag
+pub start-clears : (u : Mux) → Sound u → u .setting .kind ≡ Eds8 → Calm (order u Start .mux)
+start-clears u s e =
     record {
-      shows =
-          ap (λ r. r .reply .value) (dia-shows (order u Start .mux) (order-stays-sound u Start s))
-          ∙ rw e (Irqs.started-shows (u .irq));
-      flag = rw e (Irqs.started-flag (u .irq));
+      shows = start-shows u s ∙ rw e (Irqs.quiet-shows (u .irq));
+      flag = rw (start-is u s, e) (Irqs.quiet-flag (u .irq));
+    }
+
+-- START of a Mighty Mux removes its oldest entry: bit 0 is cleared, and the flag is on exactly where entries remain
+pub record Shorter (u v : Mux) : Type 0 where
+  pub irq : v .irq ≡ Interrupt.started MightyMux (u .irq)
+  pub clock : get REAL-TIME (order v Dia .reply .value) ≡ 0
+  pub flag : v .irq .flag ≡ remain (v .irq)
+
+pub start-removes : (u : Mux) → Sound u → u .setting .kind ≡ MightyMux → Shorter u (order u Start .mux)
+start-removes u s e =
+    let f : order u Start .mux .irq ≡ Interrupt.started MightyMux (u .irq) = ap (λ r. r .mux .irq) (start-is u s) ∙ rw e in
+    record {
+      irq = f;
+      clock = ap (get REAL-TIME) (start-shows u s ∙ rw e) ∙ start-clock MightyMux (u .irq);
+      flag = rw f (start-flag (u .irq));
     }
 
 -- DIAS answers what DIA answers, and leaves what START leaves
