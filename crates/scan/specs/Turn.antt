@@ -61,7 +61,7 @@ took Output q e = tookOutput q e
 
 -- the interrupt side after a service of port p
 unfoldable pub irqAfter : Setting → ℕ → Irq → Service → Bool → Irq
-irqAfter s p i k r = pick r (raised k (addressAt s p) i) i
+irqAfter s p i k r = pick r (raised (s .kind) k (addressAt s p) i) i
 
 -- what a turn leaves: what it changes, and the memory
 pub record Turning : Type 0 where

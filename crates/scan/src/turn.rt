@@ -75,7 +75,8 @@ fn irq_after(s: Setting, p: u32, i: Irq, k: Service, raised: bool) -> Irq
     ensures { λ r. ⌜ r ≡ irqAfter s p i k raised ⌝ }
 {
     if raised {
-        return raise(i, k, address_at(s, p));
+        let kind = s.kind;
+        return raise(kind, i, k, address_at(s, p));
     }
     i
 }

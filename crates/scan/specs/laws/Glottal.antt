@@ -54,7 +54,7 @@ pub record Delivered (u : Mux) (m : List ℕ) (p code : ℕ) (l : Looked) : Type
   pub names : l .reply .answer .port ≡ p
   pub no-echo : l .reply .answer .sent ≡ false
   pub one-interrupt : l .reply .answer .raised ≡ true
-  pub address : l .world .mux .irq ≡ raised Input (addressAt (u .setting) p) (u .irq)
+  pub address : l .world .mux .irq ≡ raised (u .setting .kind) Input (addressAt (u .setting) p) (u .irq)
   pub told : Told m (l .world .memory) (blockAt (u .setting) p) code 0o374
   pub taken : portAt (l .world .mux) p .held ≡ false
   pub transmitter : portAt (l .world .mux) p .empty ≡ portAt u p .empty

@@ -137,7 +137,7 @@ service-length Output codes m a q = output-length codes m a q
 
 irq-sound : (s : Setting) (p : ℕ) (i : Irq) (k : Service) (r : Bool) → unsound i ≡ false → unsound (irqAfter s p i k r) ≡ false
 unfolding irqAfter pick
-irq-sound s p i k true e = raised-sound k (addressAt s p) i e
+irq-sound s p i k true e = raised-sound (s .kind) k (addressAt s p) i e
 irq-sound s p i k false e = e
 
 service-counts : (k : Service) → counts (Served k) ≡ true
