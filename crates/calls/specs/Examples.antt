@@ -1,9 +1,10 @@
--- The settled examples of document 01 that are marked *, values of the 1974 manual, and worked examples of three requests, stated of the definitions.
+-- The settled examples of document 01 that are marked *, values of the 1974 manual, and worked examples of four requests, stated of the definitions.
 --   Starred   the examples of document 01, in its order
 --   Manual    001: section 6 and appendix B, as docs/DECISIONS.md makes them
 --   Bases     document 02, K1: where the two numbers of a wrong base begin and end
 --   Buffers   document 02, K2: buffers that are set up too short, and buffers that lie on their own port's words
 --   Sets      document 02, K5: a name with a glottal stop in it, in units of different sets
+--   Stacks    document 02, K6: a Mighty Mux whose stack is filled, overfilled and emptied
 -- Each is computed: a unit is set up and started, calls are made, and what they leave is compared.
 -- Not here: that they hold, in laws/Examples; the examples that are run and not proved, in the programs.
 -- Assumes nothing.
@@ -17,7 +18,10 @@ use Rattle.words.specs.Codes.{PARITY-INHIBIT, STOP-BAUDS, EVEN-PARITY}
 use Rattle.words.specs.Special.{set1974, specialIn, dictionarySet}
 use Rattle.words.specs.Length.{lengthOf}
 use Rattle.words.specs.Speed.{speedOf}
+use Rattle.interrupt.specs.declared.Kind.{Kind}
+use Rattle.interrupt.specs.declared.Kind.the-variants.{Eds8, MightyMux}
 use Rattle.interrupt.specs.declared.Service.the-variants.{Input, Output}
+use Rattle.interrupt.specs.Interrupt as Interrupt
 use Rattle.unit.specs.declared.mux.Setting.{Setting}
 use Rattle.unit.specs.declared.reply.Turn.{Turn}
 use Rattle.unit.specs.declared.reply.Turn.the-variants.{Served}
@@ -25,7 +29,7 @@ use Rattle.unit.specs.Record.{noMux, portAt}
 use Rattle.unit.specs.Reply.{World, world}
 use Rattle.unit.specs.Setup.{setup}
 use Rattle.lines.specs.declared.signal.Signal.the-variants.{Arrival, TransmitterEmpty, DeviceStatus}
-use Rattle.processor.specs.declared.orders.Order.the-variants.{Reset, Iopls, Doc, Dia, Tick}
+use Rattle.processor.specs.declared.orders.Order.the-variants.{Reset, Iopls, Start, Doc, Dia, Dias, Tick}
 use Rattle.calls.specs.declared.call.Act.the-variants.{Line, Processor, Inspect}
 use Rattle.calls.specs.Events.{Single, setsUp, does, result, after, runSingles}
 
@@ -33,14 +37,22 @@ use Rattle.calls.specs.Events.{Single, setsUp, does, result, after, runS
 abbrev pub clear : List ℕ
 clear = replicate 32768 0
 
--- the setting of block size b, P ports and the base, with the 1974 set of special codes
-abbrev pub settingOf : ℕ → ℕ → ℕ → Setting
-settingOf b n base = record { block = b; ports = n; base = base; special = set1974 }
+-- the setting of a kind of unit, of block size b, P ports and the base, with the 1974 set of special codes
+abbrev pub settingFor : Kind → ℕ → ℕ → ℕ → Setting
+settingFor k b n base = record { kind = k; block = b; ports = n; base = base; special = set1974 }
 
--- a unit set up with block size b, P ports and the base, started, on the memory m, after some more single things
+-- an EDS-8's
+abbrev pub settingOf : ℕ → ℕ → ℕ → Setting
+settingOf b n base = settingFor Eds8 b n base
+
+-- a unit of that kind, block size b, P ports and the base, started, on the memory m, after some more single things
+abbrev pub kindAfter : Kind → ℕ → ℕ → ℕ → List ℕ → List Single → World
+kindAfter k b n base m xs =
+    runSingles (world noMux m) (setsUp (settingFor k b n base) ∷ does (Processor Doc) ∷ xs)
+
+-- an EDS-8
 abbrev pub unitAfter : ℕ → ℕ → ℕ → List ℕ → List Single → World
-unitAfter b n base m xs =
-    runSingles (world noMux m) (setsUp (settingOf b n base) ∷ does (Processor Doc) ∷ xs)
+unitAfter b n base m xs = kindAfter Eds8 b n base m xs
 
 -- an inspection
 abbrev pub look : Single
@@ -236,7 +248,7 @@ pub record Buffers : Type 0 where
 -- one port, its block at word 64, in a unit with that set, started, on the memory m, after some more single things
 abbrev pub schoolAfter : List Bool → List ℕ → List Single → World
 schoolAfter codes m xs =
-    runSingles (world noMux m) (setsUp (record { block = 8; ports = 1; base = 64; special = codes }) ∷ does (Processor Doc) ∷ xs)
+    runSingles (world noMux m) (setsUp (record { kind = Eds8; block = 8; ports = 1; base = 64; special = codes }) ∷ does (Processor Doc) ∷ xs)
 
 -- 7-bit ASCII automatic input, ICW 50000 octal, of eight-bit characters, OCW 40060 octal, with IBP 2000 and LIB 2010; some characters are typed, each
 -- served
@@ -275,3 +287,58 @@ pub record Sets : Type 0 where
   pub reset-keeps : schoolAfter dictionarySet clear (does (Processor Reset) ∷ []) .mux .setting .special ≡ dictionarySet
   pub refused-keeps : schoolAfter dictionarySet clear (setsUp (settingOf 7 1 64) ∷ []) .mux .setting .special ≡ dictionarySet
   pub accepted-brings : schoolAfter dictionarySet clear (setsUp (settingOf 8 1 64) ∷ []) .mux .setting .special ≡ set1974
+
+-- the two ports of `both`, in a Mighty Mux: after some more single things
+abbrev pub stacked : List Single → World
+stacked xs = kindAfter MightyMux 32 2 15360 (set clear 15393 0o60101) (typed 0 7 ∷ xs)
+
+-- START, and a tick with the clock on
+abbrev pub start : Single
+start = does (Processor Start)
+
+abbrev pub ticks : List Single
+ticks = does (Processor Iopls) ∷ does (Processor Tick) ∷ []
+
+-- a Mighty Mux of 41 ports, b 8, base 64, each with a character to send in single mode, OCW 60101 octal, after some more single things
+abbrev pub crowd : List Single → World
+crowd xs = kindAfter MightyMux 8 41 64 (replicate 32768 0o60101) xs
+
+-- 40 of them served; then the last
+abbrev pub full : World
+full = crowd (replicate 40 look)
+
+abbrev pub over : World
+over = runSingles full (look ∷ [])
+
+pub record Stacks : Type 0 where
+  -- input done on port 0, whose address is 96, gives 11264 as on an EDS-8; output done on port 1 is behind it, 7200, without the other's bits
+  pub first-in : statusOf (stacked (look ∷ [])) ≡ 11264
+  pub first-still : statusOf (stacked (look ∷ look ∷ [])) ≡ 11264
+  pub next : statusOf (stacked (look ∷ look ∷ start ∷ [])) ≡ 7200
+  pub next-flag : stacked (look ∷ look ∷ start ∷ []) .mux .irq .flag ≡ true
+  -- DIAS reads, then does START
+  pub dias : result (stacked (look ∷ look ∷ [])) (does (Processor Dias)) .reply .value ≡ 11264
+  pub dias-next : statusOf (stacked (look ∷ look ∷ does (Processor Dias) ∷ [])) ≡ 7200
+  -- the last one removed: 0, and the flag off; START on an empty stack leaves it so
+  pub last : statusOf (stacked (look ∷ look ∷ start ∷ start ∷ [])) ≡ 0
+  pub last-flag : stacked (look ∷ look ∷ start ∷ start ∷ []) .mux .irq .flag ≡ false
+  pub empty-start : stacked (look ∷ look ∷ start ∷ start ∷ start ∷ []) .mux .irq ≡ Interrupt.fresh
+  -- a tick alone gives 32768 and no entry; beside an entry it is bit 0 of the word, until START
+  pub tick-alone : statusOf (kindAfter MightyMux 32 2 15360 clear ticks) ≡ 32768
+  pub tick-flag : kindAfter MightyMux 32 2 15360 clear ticks .mux .irq .flag ≡ true
+  pub tick-fill : kindAfter MightyMux 32 2 15360 clear ticks .mux .irq .fill ≡ 0
+  pub tick-beside : statusOf (runSingles (stacked (look ∷ look ∷ [])) ticks) ≡ 44032
+  pub tick-gone : statusOf (runSingles (runSingles (stacked (look ∷ look ∷ [])) ticks) (start ∷ [])) ≡ 7200
+  -- 40 entries, none lost; the 41st interrupt is raised and its OCW written, but not queued: bit 1 beside the oldest entry
+  pub forty : full .mux .irq .fill ≡ 40
+  pub forty-shown : statusOf full ≡ 4352
+  pub lost-raised : result full look .reply .answer .raised ≡ true
+  pub lost-written : getD (over .memory) 385 0 ≡ 0o160101
+  pub lost-fill : over .mux .irq .fill ≡ 40
+  pub lost-shown : statusOf over ≡ 20736
+  -- START leaves the mark while entries remain, and clears it with the last
+  pub lost-next : statusOf (runSingles over (start ∷ [])) ≡ 20768
+  pub lost-last : statusOf (runSingles over (replicate 39 start)) ≡ 21984
+  pub lost-gone : runSingles over (replicate 40 start) .mux .irq ≡ Interrupt.fresh
+  -- reset empties the stack and clears the mark
+  pub reset-gone : runSingles over (does (Processor Reset) ∷ []) .mux .irq ≡ Interrupt.fresh

@@ -15,7 +15,9 @@ use Rattle.words.specs.Special.{isSpecial, set1974, specialIn, withCode}
 use Rattle.words.specs.Length.{lengthOf, spanOf, cut}
 use Rattle.words.specs.Speed.{speedOf}
 use Rattle.interrupt.specs.Interrupt as Interrupt
-use Rattle.interrupt.specs.Interrupt.{busy, moreMarked, serviceMarked, statusAfter, raised, started, ticked, shown}
+use Rattle.interrupt.specs.Status.{busy, moreMarked, serviceMarked, statusAfter}
+use Rattle.interrupt.specs.Stack.{entry, pushed, removed, popped, oldest, top}
+use Rattle.interrupt.specs.Interrupt.{merged, raised, started, ticked, shown}
 use Rattle.unit.specs.Record.{portAt, blockAt, addressAt}
 use Rattle.unit.specs.Reply.{counts, guarded}
 use Rattle.unit.specs.Refusals.{badBlock, badPorts, misaligned, tooHigh, crosses, sizeRows, baseRows, areaRows, settingRows, unsound, rowsOf, callRows, tableOf, refusal}
@@ -29,11 +31,11 @@ use Rattle.scan.specs.Turn.{service, took, irqAfter, servedTurn, idleTurn, turn
 use Rattle.scan.specs.Scan.{nextPos, serviceTurn, scanned, inspection}
 use Rattle.calls.specs.Calls.{setUp, performed}
 use Rattle.calls.specs.Events.{result, counted}
-use Rattle.calls.specs.Examples.{turnsOf, Starred, Manual, Bases, Buffers, Sets}
+use Rattle.calls.specs.Examples.{turnsOf, Starred, Manual, Bases, Buffers, Sets, Stacks}
 
 -- every definition that a step of the unit computes with: to unfold this is to unfold them all
 unfoldable pub everything : Unit {0}
-unfolding pick bit asked firstOf Machine.run Machine.total get put storedByte wordByte echoedByte atEnd halfAt byteAt storeByte wordIf byteIf tab isSpecial set1974 specialIn withCode lengthOf spanOf cut speedOf busy moreMarked serviceMarked statusAfter raised started ticked shown Interrupt.unsound portAt blockAt addressAt counts guarded badBlock badPorts misaligned tooHigh crosses sizeRows baseRows areaRows settingRows unsound rowsOf callRows tableOf refusal setup signalled line Processor.after order errorCode ascii replacedICW doneICW replacedPlan donePlan storedPlan inputPlan carried inputService outDone isAuto autoPlan controlPlan singlePlan outputPlan differs statusBits becomesChanged writtenOCW outputService service took irqAfter servedTurn idleTurn turn nextPos serviceTurn scanned inspection setUp performed result counted turnsOf
+unfolding pick bit asked firstOf Machine.run Machine.total get put storedByte wordByte echoedByte atEnd halfAt byteAt storeByte wordIf byteIf tab isSpecial set1974 specialIn withCode lengthOf spanOf cut speedOf busy moreMarked serviceMarked statusAfter entry pushed removed popped oldest top merged raised started ticked shown Interrupt.cleared Interrupt.unsound portAt blockAt addressAt counts guarded badBlock badPorts misaligned tooHigh crosses sizeRows baseRows areaRows settingRows unsound rowsOf callRows tableOf refusal setup signalled line Processor.after order errorCode ascii replacedICW doneICW replacedPlan donePlan storedPlan inputPlan carried inputService outDone isAuto autoPlan controlPlan singlePlan outputPlan differs statusBits becomesChanged writtenOCW outputService service took irqAfter servedTurn idleTurn turn nextPos serviceTurn scanned inspection setUp performed result counted turnsOf
 everything = tt
 
 pub starred : Starred
@@ -156,4 +158,34 @@ sets =
       reset-keeps = refl;
       refused-keeps = refl;
       accepted-brings = refl;
+    }
+
+pub stacks : Stacks
+unfolding everything
+stacks =
+    record {
+      first-in = refl;
+      first-still = refl;
+      next = refl;
+      next-flag = refl;
+      dias = refl;
+      dias-next = refl;
+      last = refl;
+      last-flag = refl;
+      empty-start = refl;
+      tick-alone = refl;
+      tick-flag = refl;
+      tick-fill = refl;
+      tick-beside = refl;
+      tick-gone = refl;
+      forty = refl;
+      forty-shown = refl;
+      lost-raised = refl;
+      lost-written = refl;
+      lost-fill = refl;
+      lost-shown = refl;
+      lost-next = refl;
+      lost-last = refl;
+      lost-gone = refl;
+      reset-gone = refl;
     }
