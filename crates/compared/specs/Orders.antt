@@ -1,6 +1,6 @@
 -- What the numbers of a line of a session's text ask of the unit (tests/second/FORMAT.md, orders 1 to 14).
 --   nth                         a number of the line: the opcode is the first, at 0
---   settingOf                   the setting of order 1, with the set that stands
+--   settingOf                   the setting of order 1, with the kind and the set that stand
 --   signalOf, orderOf, actOf    orders 2 to 4, 5 to 12, and 2 to 13
 --   callOf                      orders 1 to 14 as a call
 --   setOf                       the whole sets of order 28
@@ -23,15 +23,15 @@ use Rattle.calls.specs.declared.call.Act.the-variants.{Line, Processor, Inspect
 use Rattle.calls.specs.declared.call.What.the-variants.{Do, Sweep}
 use Rattle.calls.specs.declared.call.Call.{Call}
 use Rattle.calls.specs.Calls.{asking, settingUp}
-use Rattle.driver.specs.Poke.{level}
+use Rattle.driver.specs.Poke.{level, kindOf}
 
 -- a number of the line; a line that has fewer reads 0
 abbrev pub nth : List ℕ → ℕ → ℕ
 nth n k = getD n k 0
 
 -- order 1 b P base take
-abbrev pub settingOf : List Bool → List ℕ → Setting
-settingOf codes n = record { block = nth n 1; ports = nth n 2; base = nth n 3; special = codes }
+abbrev pub settingOf : ℕ → List Bool → List ℕ → Setting
+settingOf kind codes n = record { kind = kindOf kind; block = nth n 1; ports = nth n 2; base = nth n 3; special = codes }
 
 -- order 2 port byte parity break; order 3 port; order 4 port level
 unfoldable pub signalOf : List ℕ → Signal

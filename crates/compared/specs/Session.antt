@@ -1,6 +1,6 @@
 -- What each order of a session's text leaves, and the text taken byte by byte (tests/second/FORMAT.md, Orders).
 --   calledLent, standing, unitOrder   orders 1 to 14
---   setOrder, deskOrder, hostOrder    orders 20 to 25 and 27 to 29
+--   kindOrder, setOrder, deskOrder, hostOrder   orders 15, 16, 20 to 25 and 27 to 29
 --   endOrder                          orders 30 and 31
 --   orderBy, order                    any order by its numbers, 26 among them; the order of the line that has been read
 --   takeByte, played                  one byte of the text, and all of it: a fold
@@ -24,10 +24,10 @@ use Rattle.calls.specs.declared.call.Call.{Call}
 use Rattle.calls.specs.Calls.{step}
 use Rattle.driver.specs.declared.read.Line.{Line}
 use Rattle.driver.specs.Host.{series}
-use Rattle.driver.specs.Poke.{level, poked, pokedPort, pokedSpecial}
+use Rattle.driver.specs.Poke.{level, poked, pokedPlace, pokedPort, pokedSpecial}
 use Rattle.driver.specs.Text.{blank, typed}
 use Rattle.compared.specs.declared.Desk.{Desk}
-use Rattle.compared.specs.Desk.{Kept, kept, newDesk, withUnit, withWords, withPlaces, withCodes, withLine, closed}
+use Rattle.compared.specs.Desk.{Kept, kept, newDesk, withUnit, withWords, withPlaces, withCodes, withKind, withLine, closed}
 use Rattle.compared.specs.Orders.{nth, settingOf, callOf, setOf}
 
 -- what a call left of the lent words and places, and the rest behind them as it was
@@ -52,17 +52,23 @@ unitAfter d s n o = kept (withUnit d (standing (o .world .mux) s n)) (o .world .
 
 unfoldable pub unitOrder : Kept → List ℕ → Kept
 unitOrder k n =
-    let s = settingOf (k .desk .codes) n in
+    let s = settingOf (k .desk .kind) (k .desk .codes) n in
     unitAfter (k .desk) s n (calledLent k (callOf s n))
 
--- order 27 code yes; order 28 which; order 29 code yes
+-- order 15 kind; order 16 place word
+unfoldable pub kindOrder : Desk → List ℕ → Desk
+kindOrder d n =
+    pick (eqb (nth n 0) 15) (withKind d (nth n 1))
+    (pick (eqb (nth n 0) 16) (withUnit d (pokedPlace (d .unit) (nth n 1) (nth n 2))) d)
+
+-- order 27 code yes; order 28 which; order 29 code yes; else the kind and the stack
 unfoldable pub setOrder : Desk → List ℕ → Desk
 setOrder d n =
     pick (eqb (nth n 0) 27) (withCodes d (withCode (d .codes) (nth n 1 % 256) (level (nth n 2))))
     (pick (eqb (nth n 0) 28) (withCodes d (setOf (nth n 1)))
-    (pick (eqb (nth n 0) 29) (withUnit d (pokedSpecial (d .unit) (nth n 1) (nth n 2))) d))
+    (pick (eqb (nth n 0) 29) (withUnit d (pokedSpecial (d .unit) (nth n 1) (nth n 2))) (kindOrder d n)))
 
--- order 22 words; order 24 field value; order 25 port field value; else the set alone
+-- order 22 words; order 24 field value; order 25 port field value; else the set, the kind and the stack
 unfoldable pub deskOrder : Desk → List ℕ → Desk
 deskOrder d n =
     pick (eqb (nth n 0) 22) (withWords d (nth n 1))
@@ -81,10 +87,10 @@ hostOrder k n =
 unfoldable pub endOrder : Kept → ℕ → Kept
 endOrder k op = pick (eqb op 31) (kept newDesk (map (λ _. 0) (k .memory)) (map (λ _. 0) (k .list))) k
 
--- an order by its numbers: 1 to 14 the unit, 20 to 25 and 27 to 29 the host, 26 printed alone, 30 and 31 the end
+-- an order by its numbers: 1 to 14 the unit, 15, 16, 20 to 25 and 27 to 29 the host, 26 printed alone, 30 and 31 the end
 unfoldable pub orderBy : Kept → List ℕ → Kept
 orderBy k n =
-    pick (ltb (nth n 0) 20) (unitOrder k n)
+    pick (ltb (nth n 0) 15) (unitOrder k n)
     (pick (eqb (nth n 0) 26) k
     (pick (ltb (nth n 0) 30) (hostOrder k n) (endOrder k (nth n 0))))
 

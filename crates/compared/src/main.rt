@@ -12,7 +12,9 @@ use driver::host::fill;
 use driver::host::lent;
 use driver::host::set_all;
 use driver::host::write;
+use driver::poke::kind_of;
 use driver::poke::poked;
+use driver::poke::poked_place;
 use driver::poke::poked_port;
 use driver::poke::poked_special;
 use driver::read::Line;
@@ -44,11 +46,11 @@ ghost use Rattle.driver.specs.Digest.{digest};
 ghost use Rattle.driver.specs.Text.{Turned};
 ghost use Rattle.driver.specs.Printed.{nothing};
 ghost use Rattle.compared.specs.Orders.{settingOf, signalOf, orderOf, actOf, callOf, setOf};
-ghost use Rattle.compared.specs.Desk.{kept, newDesk, withUnit, withWords, withPlaces, withCodes, withLine, closed};
+ghost use Rattle.compared.specs.Desk.{kept, newDesk, withUnit, withWords, withPlaces, withCodes, withKind, withLine, closed};
 ghost use Rattle.compared.specs.Said.{saying, answerSaid, toldOf, lookedOf, unitSaid, wholeSaid, speedSaid};
-ghost use Rattle.compared.specs.Session.{calledLent, standing, unitOrder, setOrder, deskOrder, hostOrder, endOrder, order, takeByte, played, shut, Driven};
+ghost use Rattle.compared.specs.Session.{calledLent, standing, unitOrder, kindOrder, setOrder, deskOrder, hostOrder, endOrder, order, takeByte, played, shut, Driven};
 
-// What the driver keeps beside the memory and the list: whether the text goes on, the line being read, the unit, how many words and places are lent, the set that setups are given.
+// What the driver keeps beside the memory and the list: whether the text goes on, the line being read, the unit, how many words and places are lent, the set and the kind that setups are given.
 struct Desk {
     going: bool,
     line: Line,
@@ -56,6 +58,7 @@ struct Desk {
     words: u32,
     places: u32,
     codes: [bool; 128],
+    kind: u32,
 }
 
 // The desk at the start of a session.
@@ -69,6 +72,7 @@ fn new_desk() -> Desk
         words: 32768,
         places: 0,
         codes: set_1974(),
+        kind: 0,
     }
 }
 
@@ -108,6 +112,15 @@ fn with_codes(d: Desk, codes: [bool; 128]) -> Desk
     e
 }
 
+// The desk with another kind for setups.
+fn with_kind(d: Desk, kind: u32) -> Desk
+    ensures { λ r. ⌜ r ≡ withKind d kind ⌝ }
+{
+    let mut e = d;
+    e.kind = kind;
+    e
+}
+
 // The desk with the line as it is read so far.
 fn with_line(d: Desk, l: Line) -> Desk
     ensures { λ r. ⌜ r ≡ withLine d l ⌝ }
@@ -126,11 +139,12 @@ fn closed(d: Desk) -> Desk
     e
 }
 
-// Order 1: the setting that setup is asked for, with the set that stands.
-fn setting_of(codes: [bool; 128], n: [u32; 5]) -> Setting
-    ensures { λ r. ⌜ r ≡ settingOf codes n ⌝ }
+// Order 1: the setting that setup is asked for, with the kind and the set that stand.
+fn setting_of(kind: u32, codes: [bool; 128], n: [u32; 5]) -> Setting
+    ensures { λ r. ⌜ r ≡ settingOf kind codes n ⌝ }
 {
     Setting {
+        kind: kind_of(kind),
         block: n[1],
         ports: n[2],
         base: n[3],
@@ -292,7 +306,7 @@ fn unit_order(d: Desk, n: [u32; 5], mem: &mut [u16], list: &mut [u16]) -> Desk
     ensures { λ r. ⌜ kept r (now (mem .exit)) (now (list .exit)) ≡ unitOrder (kept d (now (mem .entry)) (now (list .entry))) n ⌝ }
 {
     let codes = d.codes;
-    let s = setting_of(codes, n);
+    let s = setting_of(d.kind, codes, n);
     let r = called_lent(d, mem, list, call_of(s, n));
     let u = standing(r.mux, s, n);
     print(unit_line(s, n, r.reply, u, d.places, mem, list));
@@ -312,7 +326,20 @@ fn set_of(which: u32) -> [bool; 128]
     set_1974()
 }
 
-// Orders 27 to 29: the set that setups are given from now on, and a poke of the unit's own.
+// Orders 15 and 16: the kind that setups are given from now on, and a poke of the unit's stack.
+fn kind_order(d: Desk, n: [u32; 5]) -> Desk
+    ensures { λ r. ⌜ r ≡ kindOrder d n ⌝ }
+{
+    if n[0] == 15 {
+        return with_kind(d, n[1]);
+    }
+    if n[0] == 16 {
+        return with_unit(d, poked_place(d.unit, n[1], n[2]));
+    }
+    d
+}
+
+// Orders 27 to 29: the set that setups are given from now on, and a poke of the unit's own; else the kind and the stack.
 fn set_order(d: Desk, n: [u32; 5]) -> Desk
     ensures { λ r. ⌜ r ≡ setOrder d n ⌝ }
 {
@@ -326,10 +353,10 @@ fn set_order(d: Desk, n: [u32; 5]) -> Desk
     if n[0] == 29 {
         return with_unit(d, poked_special(d.unit, n[1], n[2]));
     }
-    d
+    kind_order(d, n)
 }
 
-// Orders 22, 24 and 25: how many words are lent from now on, and pokes; else the set alone.
+// Orders 22, 24 and 25: how many words are lent from now on, and pokes; else the set, the kind and the stack.
 fn desk_order(d: Desk, n: [u32; 5]) -> Desk
     ensures { λ r. ⌜ r ≡ deskOrder d n ⌝ }
 {
@@ -345,7 +372,7 @@ fn desk_order(d: Desk, n: [u32; 5]) -> Desk
     set_order(d, n)
 }
 
-// Orders 20 to 25 and 27 to 29: what the host does.
+// Orders 15, 16, 20 to 25 and 27 to 29: what the host does.
 fn host_order(d: Desk, n: [u32; 5], mem: &mut [u16], list: &mut [u16]) -> Desk
     ensures { λ r. ⌜ kept r (now (mem .exit)) (now (list .exit)) ≡ hostOrder (kept d (now (mem .entry)) (now (list .entry))) n ⌝ }
 {
@@ -399,7 +426,7 @@ fn order(d: Desk, mem: &mut [u16], list: &mut [u16]) -> Desk
 {
     let l = d.line;
     let n = l.n;
-    if n[0] < 20 {
+    if n[0] < 15 {
         return unit_order(d, n, mem, list);
     }
     if n[0] == 26 {

@@ -1,7 +1,7 @@
 -- The digests of tests/second/FORMAT.md.
 --   taken                              a digest with one more number
 --   digest                             of words or places, in their order
---   codeTaken, portTaken, scalars, recordDigest   of the record
+--   kindNumber, codeTaken, portTaken, scalars, kindScalars, recordDigest   of the record
 --   windowDigest                       of the window on a control block
 -- Not here: the line that is read, in Text; folds taken step by step, in laws/Folds.
 -- Assumes nothing.
@@ -10,6 +10,9 @@ use mathlib.Core.List.{List, [], _∷_, foldl}
 use Prim.Native.Nat.{ℕ, _+_, _*_, _/_, _%_}
 use lib.ListN.{getD}
 use Rattle.ground.specs.Choose.{bit}
+use Rattle.interrupt.specs.declared.Kind.{Kind}
+use Rattle.interrupt.specs.declared.Kind.the-variants.{Eds8, MightyMux}
+use Rattle.interrupt.specs.declared.Irq.{Irq}
 use Rattle.unit.specs.declared.mux.Port.{Port}
 use Rattle.unit.specs.declared.mux.Mux.{Mux}
 
@@ -20,6 +23,11 @@ taken h x = (h * 65599 + x) % 2147483647
 -- the digest of words or places, in the order of their addresses
 abbrev pub digest : List ℕ → ℕ
 digest xs = foldl taken 1 xs
+
+-- a kind of unit: 0 EDS-8, 1 Mighty Mux
+unfoldable pub kindNumber : Kind → ℕ
+kindNumber Eds8 = 0
+kindNumber MightyMux = 1
 
 -- a digest with the set's word on a code: 1 where it is special
 abbrev pub codeTaken : ℕ → Bool → ℕ
@@ -32,14 +40,18 @@ portTaken h q =
     (bit (q .held) ∷ q .ch .byte ∷ bit (q .ch .parity) ∷ bit (q .ch .brk) ∷ bit (q .ch .overload) ∷ bit (q .empty) ∷
     q .control ∷ bit (q .devcontrol) ∷ bit (q .devstatus) ∷ [])
 
--- the eight numbers of the record before its set and its ports, in the order of opcode 24
+-- the first eight numbers of the record, in the order of opcode 24
 abbrev pub scalars : Mux → List ℕ
 scalars u =
     u .setting .block ∷ u .setting .ports ∷ u .setting .base ∷ u .pos ∷ bit (u .runs) ∷ bit (u .clock) ∷ bit (u .irq .flag) ∷ u .irq .status ∷ []
 
--- the digest of the record: 1288 numbers
+-- and the three after them, before its stack, its set and its ports
+abbrev pub kindScalars : Kind → Irq → List ℕ
+kindScalars k i = kindNumber k ∷ bit (i .lost) ∷ i .fill ∷ []
+
+-- the digest of the record: 1331 numbers
 unfoldable pub recordDigest : Mux → ℕ
-recordDigest u = foldl portTaken (foldl codeTaken (digest (scalars u)) (u .setting .special)) (u .port)
+recordDigest u = foldl portTaken (foldl codeTaken (foldl taken (foldl taken (digest (scalars u)) (kindScalars (u .setting .kind) (u .irq))) (u .irq .stack)) (u .setting .special)) (u .port)
 
 -- the digest of the eight words from look on and of the words that IBP and OBP point into
 unfoldable pub windowDigest : List ℕ → ℕ → ℕ

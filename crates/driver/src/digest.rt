@@ -1,4 +1,6 @@
 // The digests of FORMAT.md: of words, of the record, and of the window on a control block.
+use interrupt::Irq;
+use interrupt::Kind;
 use unit::mux::Mux;
 use unit::mux::Port;
 use words::field::bit;
@@ -7,7 +9,7 @@ ghost use mathlib.Core.List.{foldl};
 ghost use Prim.Native.Nat.{_<_};
 ghost use lib.ListN.{getD};
 ghost use Rattle.ground.specs.Choose.{bit, Below};
-ghost use Rattle.driver.specs.Digest.{taken, digest, codeTaken, portTaken, recordDigest, windowDigest};
+ghost use Rattle.driver.specs.Digest.{taken, digest, kindNumber, codeTaken, portTaken, scalars, kindScalars, recordDigest, windowDigest};
 
 // The digest h with one more number.
 pub fn taken(h: u64, x: u64) -> u64
@@ -25,6 +27,16 @@ pub fn number(b: bool) -> u64
     bit(b) as u64
 }
 
+// A kind of unit as a digest counts it.
+fn kind_number(k: Kind) -> u64
+    ensures { λ r. ⌜ Below 2 (kindNumber k) r ⌝ }
+{
+    match k {
+        Kind::Eds8 => 0,
+        Kind::MightyMux => 1,
+    }
+}
+
 // The digest of words, in the order of their addresses.
 pub fn of_words(words: &[u16]) -> u64
     ensures { λ r. ⌜ Below 2147483647 (digest (now (words .entry))) r ⌝ }
@@ -36,6 +48,28 @@ pub fn of_words(words: &[u16]) -> u64
         i += 1;
     }
     h
+}
+
+// The digest h with a place of a stack.
+fn of_place(h: u64, x: u16) -> u64
+    requires { ⌜ h < 2147483647 ⌝ }
+    ensures { λ r. ⌜ Below 2147483647 (taken h x) r ⌝ }
+{
+    taken(h, x as u64)
+}
+
+// The digest h with the places of a stack.
+fn of_stack(h: u64, a: [u16; 40]) -> u64
+    requires { ⌜ h < 2147483647 ⌝ }
+    ensures { λ r. ⌜ Below 2147483647 (foldl taken h a) r ⌝ }
+{
+    let mut d = h;
+    let mut i = 0;
+    while i < 40 {
+        d = of_place(d, a[i]);
+        i += 1;
+    }
+    d
 }
 
 // The digest h with the numbers of a set, one for each code.
@@ -83,9 +117,9 @@ fn of_ports(h: u64, t: [Port; 128]) -> u64
     d
 }
 
-// The digest of the whole record.
-pub fn of_record(u: Mux) -> u64
-    ensures { λ r. ⌜ Below 2147483647 (recordDigest u) r ⌝ }
+// The digest of the first eight numbers of the record.
+fn of_scalars(u: Mux) -> u64
+    ensures { λ r. ⌜ Below 2147483647 (digest (scalars u)) r ⌝ }
 {
     let s = u.setting;
     let q = u.irq;
@@ -96,10 +130,31 @@ pub fn of_record(u: Mux) -> u64
     let h5 = taken(h4, number(u.runs));
     let h6 = taken(h5, number(u.clock));
     let h7 = taken(h6, number(q.flag));
-    let h8 = taken(h7, q.status as u64);
+    taken(h7, q.status as u64)
+}
+
+// The digest h with the three after them.
+fn of_kind(h: u64, k: Kind, i: Irq) -> u64
+    requires { ⌜ h < 2147483647 ⌝ }
+    ensures { λ r. ⌜ Below 2147483647 (foldl taken h (kindScalars k i)) r ⌝ }
+{
+    let h1 = taken(h, kind_number(k));
+    let h2 = taken(h1, number(i.lost));
+    taken(h2, i.fill as u64)
+}
+
+// The digest of the whole record.
+pub fn of_record(u: Mux) -> u64
+    ensures { λ r. ⌜ Below 2147483647 (recordDigest u) r ⌝ }
+{
+    let s = u.setting;
+    let k = s.kind;
     let codes = s.special;
+    let q = u.irq;
+    let a = q.stack;
     let t = u.port;
-    of_ports(of_codes(h8, codes), t)
+    let h = of_kind(of_scalars(u), k, q);
+    of_ports(of_codes(of_stack(h, a), codes), t)
 }
 
 // The word at an address, 0 past the end.

@@ -1,5 +1,6 @@
-// Pokes (orders 24, 25 and 29): one field of the record, or one field of a port, by its number, or one code of the record's set.
+// Pokes (orders 16, 24, 25 and 29): one field of the record, or one field of a port, by its number, one place of the record's stack, or one code of its set.
 use interrupt::Irq;
+use interrupt::Kind;
 use unit::mux::Character;
 use unit::mux::Mux;
 use unit::mux::Port;
@@ -9,7 +10,7 @@ use unit::mux::with_port;
 use words::special::with_code;
 ghost use mathlib.Core.Path.{_≡_};
 ghost use Rattle.ground.specs.Choose.{pick};
-ghost use Rattle.driver.specs.Poke.{pokedSetting, pokedIrq, poked, pokedCharacter, pokedField, pokedPort, pokedSpecial};
+ghost use Rattle.driver.specs.Poke.{kindOf, pokedSetting, pokedIrq, poked, pokedPlace, pokedCharacter, pokedField, pokedPort, pokedSpecial};
 
 // A number of the setting or the position: the poked one where this is the field, else the old one.
 fn number_if(here: bool, new: u32, old: u32) -> u32
@@ -51,24 +52,50 @@ fn level_if(here: bool, new: bool, old: bool) -> bool
     old
 }
 
-// The setting with its block size (0), P (1) or base (2) poked.
+// A kind, likewise, by its number.
+fn kind_if(here: bool, new: u32, old: Kind) -> Kind
+    ensures { λ r. ⌜ r ≡ pick here (kindOf new) old ⌝ }
+{
+    if here {
+        return kind_of(new);
+    }
+    old
+}
+
+// The kind of a number: 0 EDS-8, any other Mighty Mux.
+pub fn kind_of(v: u32) -> Kind
+    ensures { λ r. ⌜ r ≡ kindOf v ⌝ }
+{
+    if v == 0 {
+        return Kind::Eds8;
+    }
+    Kind::MightyMux
+}
+
+// The setting with its block size (0), P (1), base (2) or kind (8) poked.
 fn poked_setting(s: Setting, field: u32, value: u32) -> Setting
     ensures { λ r. ⌜ r ≡ pokedSetting s field value ⌝ }
 {
-    let mut r = s;
-    r.block = number_if(field == 0, value, s.block);
-    r.ports = number_if(field == 1, value, s.ports);
-    r.base = number_if(field == 2, value, s.base);
-    r
+    let k = s.kind;
+    let codes = s.special;
+    Setting {
+        kind: kind_if(field == 8, value, k),
+        block: number_if(field == 0, value, s.block),
+        ports: number_if(field == 1, value, s.ports),
+        base: number_if(field == 2, value, s.base),
+        special: codes,
+    }
 }
 
-// The interrupt side with its flag (6) or its status word (7) poked.
+// The interrupt side with its flag (6), its status word (7), its lost mark (9) or its number of entries (10) poked.
 fn poked_irq(i: Irq, field: u32, value: u32) -> Irq
     ensures { λ r. ⌜ r ≡ pokedIrq i field value ⌝ }
 {
     let mut r = i;
     r.flag = level_if(field == 6, value != 0, i.flag);
     r.status = word_if(field == 7, (value % 65536) as u16, i.status);
+    r.lost = level_if(field == 9, value != 0, i.lost);
+    r.fill = number_if(field == 10, value, i.fill);
     r
 }
 
@@ -84,6 +111,18 @@ pub fn poked(u: Mux, field: u32, value: u32) -> Mux
     v.runs = level_if(field == 4, value != 0, u.runs);
     v.clock = level_if(field == 5, value != 0, u.clock);
     v.irq = poked_irq(i, field, value);
+    v
+}
+
+// The record with a place of its stack poked.
+pub fn poked_place(u: Mux, place: u32, word: u32) -> Mux
+    ensures { λ r. ⌜ r ≡ pokedPlace u place word ⌝ }
+{
+    let at = (place % 40) as usize;
+    let mut i = u.irq;
+    i.stack[at] = (word % 65536) as u16;
+    let mut v = u;
+    v.irq = i;
     v
 }
 
