@@ -1,11 +1,12 @@
 -- The session to watch: its unit, what its host writes, and the record and the memory after each part of it.
---   three, placeOf            its unit, with a set of special codes; where a word of a port's control block lies
+--   three, placeOf            its unit, of a kind and with a set of special codes; where a word of a port's control block lies
 --   seen                      what is seen of a block before an inspection
 --   withWord, controlWord     a word of a port's control block written; OCW for port control
 --   controlPut .. outputPut   what the host writes, in the session's order
 --   after, wrote              the world after one thing asked of the unit, and after the host's writes
 --   turned .. keyedThree      the world after what the session does again and again
 --   setUp .. session          the world after each part, in the session's order
+--   piled .. mighty           the session at a Mighty Mux
 --   Lent .. afterSweeps       the memory and the list that the sweeps at the end are lent, and what they leave there
 -- Not here: what one call does, in Calls of the crate calls; what is printed, which the stored output holds;
 -- what follows, in laws/.
@@ -17,6 +18,9 @@ use lib.ListN.{getD, set, replicate}
 use Rattle.words.specs.Field.{put}
 use Rattle.words.specs.Codes.{atICW, atOCW, atIBP, atOBP, atLIB, atLOB, INMO, inEcho, ASCII, OUTMO, outAuto, outControl, DEVICE-CONTROL, CHARACTER}
 use Rattle.words.specs.Byte.{storeByte}
+use Rattle.words.specs.Special.{set1974}
+use Rattle.interrupt.specs.declared.Kind.{Kind}
+use Rattle.interrupt.specs.declared.Kind.the-variants.{Eds8, MightyMux}
 use Rattle.unit.specs.declared.mux.Setting.{Setting}
 use Rattle.unit.specs.declared.mux.Mux.{Mux}
 use Rattle.unit.specs.Record.{noMux, blockAt}
@@ -24,7 +28,7 @@ use Rattle.unit.specs.Reply.{World, world, Outcome}
 use Rattle.unit.specs.Refusals.{MOST-INSPECTIONS}
 use Rattle.unit.specs.Setup.{setup}
 use Rattle.lines.specs.declared.signal.Signal.the-variants.{Arrival, TransmitterEmpty}
-use Rattle.processor.specs.declared.orders.Order.the-variants.{Doc, Dias}
+use Rattle.processor.specs.declared.orders.Order.the-variants.{Iopls, Doc, Dias, Tick}
 use Rattle.sweep.specs.Sweep.{sweep}
 use Rattle.calls.specs.declared.call.Act.{Act}
 use Rattle.calls.specs.declared.call.Act.the-variants.{Line, Processor, Inspect}
@@ -35,12 +39,12 @@ use Rattle.watch.specs.declared.say.Before.{Before}
 -- ---- the unit
 
 -- three ports with blocks of 8 words from word 64 on
-abbrev pub three : List Bool → Setting
-three codes = record { block = 8; ports = 3; base = 64; special = codes }
+abbrev pub three : Kind → List Bool → Setting
+three kind codes = record { kind = kind; block = 8; ports = 3; base = 64; special = codes }
 
--- where word k of port p's control block lies, whatever the set
+-- where word k of port p's control block lies, whatever the kind and the set
 unfoldable pub placeOf : ℕ → ℕ → ℕ
-placeOf p k = blockAt (three (replicate 128 false)) (p % 3) + k
+placeOf p k = blockAt (three Eds8 (replicate 128 false)) (p % 3) + k
 
 -- what is seen of port p's block before an inspection
 abbrev pub seen : List ℕ → ℕ → Before
@@ -106,21 +110,21 @@ keyed b w = rotated (typed 0 b w)
 unfoldable pub keyedThree : ℕ → ℕ → ℕ → World → World
 keyedThree a b c w = keyed c (keyed b (keyed a w))
 
--- a new unit of three ports with that set, on the memory
-unfoldable pub setUp : List Bool → List ℕ → World
-setUp codes m = world (Calls.setUp noMux (setup (three codes)) .mux) m
+-- a new unit of three ports, of that kind and with that set, on the memory
+unfoldable pub setUp : Kind → List Bool → List ℕ → World
+setUp kind codes m = world (Calls.setUp noMux (setup (three kind codes)) .mux) m
 
 -- it runs
-unfoldable pub began : List Bool → List ℕ → World
-began codes m = after (Processor Doc) (setUp codes m)
+unfoldable pub began : Kind → List Bool → List ℕ → World
+began kind codes m = after (Processor Doc) (setUp kind codes m)
 
 -- port control at each port, and then the control blocks of the session
 unfoldable pub prepared : World → World
 prepared w = wrote outputPut (wrote inputPut (rotated (wrote controlPut w)))
 
--- both, on the memory
+-- both, on the memory, at an EDS-8
 unfoldable pub opened : List Bool → List ℕ → World
-opened codes m = prepared (began codes m)
+opened codes m = prepared (began Eds8 codes m)
 
 -- x typed at port 1; then p, u and the glottal stop, octal 174, keyed at port 0
 unfoldable pub firstHalf : World → World
@@ -129,6 +133,28 @@ firstHalf w = keyedThree 112 117 0o174 (typed 1 120 w)
 -- the whole session on the memory, at a unit with that set: after the first half the host asks for input again, and u, k and u are keyed
 unfoldable pub session : List Bool → List ℕ → World
 session codes m = keyedThree 117 107 117 (wrote inputAsked (firstHalf (opened codes m)))
+
+-- ---- the session at a Mighty Mux
+
+-- port control at each port, and an inspection of each, with nobody to read the status
+unfoldable pub piled : World → World
+piled w = after Inspect (after Inspect (after Inspect (wrote controlPut w)))
+
+-- a tick of the clock, which is on
+unfoldable pub ticked : World → World
+ticked w = after (Processor Tick) (after (Processor Iopls) w)
+
+-- DIAS, twice
+unfoldable pub readTwice : World → World
+readTwice w = after (Processor Dias) (after (Processor Dias) w)
+
+-- a Mighty Mux on the memory in which three interrupts and a tick wait to be read
+unfoldable pub waiting : List ℕ → World
+waiting m = ticked (piled (began MightyMux set1974 m))
+
+-- they are read, with one DIAS more than there are entries
+unfoldable pub mighty : List ℕ → World
+mighty m = readTwice (readTwice (waiting m))
 
 -- ---- the sweeps at the end
 

@@ -1,4 +1,5 @@
 // What the host of the session writes into its control blocks, and reads there.
+use interrupt::Kind;
 use unit::mux::Setting;
 use unit::mux::block_at;
 use words::byte::store;
@@ -23,11 +24,12 @@ ghost use lib.ListN.{length, getD};
 ghost use Rattle.ground.specs.Choose.{Below};
 ghost use Rattle.watch.specs.Session.{three, placeOf, withWord, controlWord, controlPut, inputAsked, inputPut, greetingPut, outputPut};
 
-// The unit of the session: three ports with blocks of 8 words from word 64 on, and that set of special codes.
-pub fn three(codes: [bool; 128]) -> Setting
-    ensures { λ r. ⌜ r ≡ three codes ⌝ }
+// A unit of that kind: three ports with blocks of 8 words from word 64 on, and that set of special codes.
+pub fn three(kind: Kind, codes: [bool; 128]) -> Setting
+    ensures { λ r. ⌜ r ≡ three kind codes ⌝ }
 {
     Setting {
+        kind,
         block: 8,
         ports: 3,
         base: 64,
@@ -35,12 +37,12 @@ pub fn three(codes: [bool; 128]) -> Setting
     }
 }
 
-// Where word k of port p's control block lies, whatever the set. Nothing says here that p is below 3, so its remainder is taken.
+// Where word k of port p's control block lies, whatever the kind and the set. Nothing says here that p is below 3, so its remainder is taken.
 fn place_of(p: u32, k: usize) -> usize
     requires { ⌜ k < 8 ⌝ }
     ensures { λ r. ⌜ Below 32768 (placeOf p k) r ⌝ }
 {
-    block_at(three([false; 128]), p % 3) + k
+    block_at(three(Kind::Eds8, [false; 128]), p % 3) + k
 }
 
 // A word of port p's control block.

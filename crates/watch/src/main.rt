@@ -1,5 +1,5 @@
 // A session that a person can watch: three ports, a name with a glottal stop typed at the first, and in plain words what each inspection does; at a unit of the 1974 set of special codes, and at one
-// whose school chose to have the glottal stop ordinary.
+// whose school chose to have the glottal stop ordinary. Then a short one at a Mighty Mux, whose interrupts wait in its stack.
 mod host;
 mod say;
 
@@ -14,12 +14,14 @@ use crate::say::say_icw;
 use crate::say::say_interrupt;
 use crate::say::say_number;
 use crate::say::say_octal;
+use crate::say::say_read;
 use crate::say::say_turn;
 use crate::say::seen;
 use calls::call::Act;
 use calls::call::What;
 use calls::call::asking;
 use calls::call::setting_up;
+use interrupt::Kind;
 use io::write_all;
 use lines::signal::Signal;
 use processor::orders::Order;
@@ -36,9 +38,10 @@ ghost use lib.ListN.{length};
 ghost use Rattle.unit.specs.Refusals.{MOST-INSPECTIONS};
 ghost use Rattle.unit.specs.Reply.{world, looked, outcome};
 ghost use Rattle.sweep.specs.Sweep.{sweep};
+ghost use Rattle.processor.specs.declared.orders.Order.the-variants.{Dias};
 ghost use Rattle.calls.specs.declared.call.Act.the-variants.{Line, Processor, Inspect};
 ghost use Rattle.calls.specs.Calls.{performed};
-ghost use Rattle.watch.specs.Session.{after, inputAsked, turned, rotated, typed, keyed, keyedThree, setUp, began, prepared, opened, firstHalf, session, lent, afterSweep, afterSweeps};
+ghost use Rattle.watch.specs.Session.{after, inputAsked, turned, rotated, typed, keyed, keyedThree, setUp, began, prepared, opened, firstHalf, session, piled, ticked, readTwice, waiting, mighty, lent, afterSweep, afterSweeps};
 
 // One thing asked of the unit. Only a sweep has a list, so it is given none.
 fn asked(u: Mux, mem: &mut [u16], act: Act) -> Replied
@@ -73,13 +76,14 @@ fn watched(u: Mux, mem: &mut [u16]) -> Mux
     let r = asked(u, mem, Act::Inspect);
     let v = r.mux;
     let s = v.setting;
+    let k = s.kind;
     let codes = s.special;
     let a = r.reply.answer;
     write_all(1, b"  port ");
     say_number(a.port as u64);
     write_all(1, b": ");
     say_turn(a, mem, before, codes);
-    say_interrupt(a.raised, v.irq);
+    say_interrupt(a.raised, k, v.irq);
     write_all(1, b"\n");
     v
 }
@@ -145,20 +149,20 @@ fn keyed_three(u: Mux, mem: &mut [u16], a: u8, b: u8, c: u8) -> Mux
     keyed(w, mem, c)
 }
 
-// A new unit of three ports with that set; a setup has no list either.
-fn set_up(mem: &mut [u16], codes: [bool; 128]) -> Mux
-    ensures { λ r. ⌜ world r (now (mem .exit)) ≡ setUp codes (now (mem .entry)) ⌝ }
+// A new unit of three ports, of that kind and with that set; a setup has no list either.
+fn set_up(mem: &mut [u16], kind: Kind, codes: [bool; 128]) -> Mux
+    ensures { λ r. ⌜ world r (now (mem .exit)) ≡ setUp kind codes (now (mem .entry)) ⌝ }
 {
     let mut none = [0u16; 1];
-    let r = door::call_by_value(no_mux(), mem, &mut none, setting_up(three(codes)));
+    let r = door::call_by_value(no_mux(), mem, &mut none, setting_up(three(kind, codes)));
     r.mux
 }
 
-// The unit at the start of the session: it runs.
-fn began(mem: &mut [u16], codes: [bool; 128]) -> Mux
-    ensures { λ r. ⌜ world r (now (mem .exit)) ≡ began codes (now (mem .entry)) ⌝ }
+// The unit at the start of a session: it runs.
+fn began(mem: &mut [u16], kind: Kind, codes: [bool; 128]) -> Mux
+    ensures { λ r. ⌜ world r (now (mem .exit)) ≡ began kind codes (now (mem .entry)) ⌝ }
 {
-    let u = set_up(mem, codes);
+    let u = set_up(mem, kind, codes);
     ordered(u, mem, Order::Doc)
 }
 
@@ -178,12 +182,12 @@ fn prepared(u: Mux, mem: &mut [u16]) -> Mux
     v
 }
 
-// Both, at a unit with that set.
+// Both, at an EDS-8 with that set.
 fn opened(mem: &mut [u16], codes: [bool; 128]) -> Mux
     requires { ⌜ length (now mem) ≡ 32768 ⌝ }
     ensures { λ r. ⌜ world r (now (mem .exit)) ≡ opened codes (now (mem .entry)) ⌝ }
 {
-    let u = began(mem, codes);
+    let u = began(mem, Kind::Eds8, codes);
     prepared(u, mem)
 }
 
@@ -223,6 +227,75 @@ fn say_buffer(mem: &[u16])
     write_all(1, b"buffer from byte 2001: ");
     say_bytes(mem, 2000, word_of(mem, 0, IBP));
     write_all(1, b"\n");
+}
+
+// Port control at each port, and an inspection of each, with nobody to read the status.
+fn piled(u: Mux, mem: &mut [u16]) -> Mux
+    requires { ⌜ length (now mem) ≡ 32768 ⌝ }
+    ensures { λ r. ⌜ world r (now (mem .exit)) ≡ piled (world u (now (mem .entry))) ⌝ }
+{
+    put_control(mem);
+    let v = watched(u, mem);
+    let w = watched(v, mem);
+    watched(w, mem)
+}
+
+// A tick of the clock.
+fn ticked(u: Mux, mem: &mut [u16]) -> Mux
+    ensures { λ r. ⌜ world r (now (mem .exit)) ≡ ticked (world u (now (mem .entry))) ⌝ }
+{
+    write_all(1, b"a tick of the clock\n");
+    let v = ordered(u, mem, Order::Iopls);
+    ordered(v, mem, Order::Tick)
+}
+
+// The processor reads by DIAS.
+fn read(u: Mux, mem: &mut [u16]) -> Mux
+    ensures { λ r. ⌜ world r (now (mem .exit)) ≡ after (Processor Dias) (world u (now (mem .entry))) ⌝ }
+{
+    let r = asked(u, mem, Act::Processor { order: Order::Dias });
+    let v = r.mux;
+    let i = v.irq;
+    say_read(r.reply.value, i.flag);
+    v
+}
+
+// Twice.
+fn read_twice(u: Mux, mem: &mut [u16]) -> Mux
+    ensures { λ r. ⌜ world r (now (mem .exit)) ≡ readTwice (world u (now (mem .entry))) ⌝ }
+{
+    let v = read(u, mem);
+    read(v, mem)
+}
+
+// A Mighty Mux in which three interrupts and a tick wait to be read.
+fn waiting(mem: &mut [u16]) -> Mux
+    requires { ⌜ length (now mem) ≡ 32768 ⌝ }
+    ensures { λ r. ⌜ world r (now (mem .exit)) ≡ waiting (now (mem .entry)) ⌝ }
+{
+    let u = began(mem, Kind::MightyMux, set_1974());
+    let v = piled(u, mem);
+    ticked(v, mem)
+}
+
+// They are read, with one DIAS more than there are entries.
+fn mighty(mem: &mut [u16]) -> Mux
+    requires { ⌜ length (now mem) ≡ 32768 ⌝ }
+    ensures { λ r. ⌜ world r (now (mem .exit)) ≡ mighty (now (mem .entry)) ⌝ }
+{
+    let u = waiting(mem);
+    let v = read_twice(u, mem);
+    read_twice(v, mem)
+}
+
+// The same, on a memory of its own.
+fn say_mighty() {
+    let mut mem = [0u16; 32768];
+    write_all(
+        1,
+        b"\na Mighty Mux of 3 ports runs; the host asks for port control at each, and reads no status until all are done\n",
+    );
+    mighty(&mut mem);
 }
 
 // A sweep of n inspections.
@@ -291,4 +364,5 @@ fn main() {
     write_all(1, b"octal 174 ordinary, ");
     say_buffer(&other);
     say_sweeps(u, &mut mem, &mut list);
+    say_mighty();
 }

@@ -1,6 +1,7 @@
 // In plain words what an inspection did.
 use crate::host::word_of;
 use interrupt::Irq;
+use interrupt::Kind;
 use interrupt::Service;
 use interrupt::dia;
 use io::print_decimal;
@@ -193,9 +194,20 @@ pub fn say_icw(mem: &[u16])
 }
 
 // The interrupt, if any was raised.
-pub fn say_interrupt(raised: bool, i: Irq) {
+pub fn say_interrupt(raised: bool, k: Kind, i: Irq) {
     if raised {
         write_all(1, b", interrupt, status word ");
-        say_number(dia(i) as u64);
+        say_number(dia(k, i) as u64);
     }
+}
+
+// What DIAS read, and the interrupt flag after it.
+pub fn say_read(value: u16, flag: bool) {
+    write_all(1, b"DIAS reads ");
+    say_number(value as u64);
+    if flag {
+        write_all(1, b", the flag stays on\n");
+        return;
+    }
+    write_all(1, b", the flag is off\n");
 }

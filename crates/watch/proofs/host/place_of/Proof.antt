@@ -8,7 +8,7 @@ use Rattle.watch.specs.laws.Session.{fits}
 use Rattle.watch.proofs.host.place_of.Tie as tie
 
 block-at-requires : tie.Need-block-at-requires
-block-at-requires c κs = rw (c .three .ensures) (fits _, mod-lt _ (omega arith))
+block-at-requires c κs = rw (c .three .ensures) (fits _ _, mod-lt _ (omega arith))
 
 returns : tie.Need-returns
 unfolding placeOf
