@@ -23,7 +23,7 @@ portsMended n = pick (eqb n 0) 1 (pick (ltb MOST-PORTS n) MOST-PORTS n)
 
 -- both
 unfoldable pub sizesMended : Setting → Setting
-sizesMended s = record { block = blockMended (s .block); ports = portsMended (s .ports); base = s .base; special = s .special }
+sizesMended s = record { kind = s .kind; block = blockMended (s .block); ports = portsMended (s .ports); base = s .base; special = s .special }
 
 -- a base, or the last word of the memory where it is above that
 unfoldable pub inMemory : ℕ → ℕ
@@ -46,7 +46,7 @@ baseMended b n a =
 
 -- the setting with another base
 abbrev pub withBase : Setting → ℕ → Setting
-withBase s a = record { block = s .block; ports = s .ports; base = a; special = s .special }
+withBase s a = record { kind = s .kind; block = s .block; ports = s .ports; base = a; special = s .special }
 
 -- the setting with its base lowered as far as it must be
 abbrev pub lowered : Setting → Setting

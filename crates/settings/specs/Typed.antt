@@ -13,6 +13,7 @@ use Prim.Native.Nat.{ℕ, _+_, _%_}
 use lib.Dec.{eqb, ltb}
 use Rattle.ground.specs.Choose.{pick}
 use Rattle.words.specs.Special.{set1974}
+use Rattle.interrupt.specs.declared.Kind.the-variants.{Eds8}
 use Rattle.unit.specs.declared.mux.Setting.{Setting}
 use Rattle.driver.specs.Text.{isDigit, appended}
 use Rattle.settings.specs.declared.typed.Line.{Line}
@@ -79,4 +80,4 @@ whole t = not (t .wrong) && eqb (t .count) 3
 
 -- the setting that it asks for, with the 1974 set
 abbrev pub settingOf : Line → Setting
-settingOf t = record { block = t .block; ports = t .ports; base = t .base; special = set1974 }
+settingOf t = record { kind = Eds8; block = t .block; ports = t .ports; base = t .base; special = set1974 }

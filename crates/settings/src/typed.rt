@@ -1,6 +1,7 @@
 // The line that a caretaker types: three decimal numbers with spaces between them, read byte by byte.
 use driver::read::appended;
 use driver::read::is_digit;
+use interrupt::Kind;
 use unit::mux::Setting;
 use words::special::set_1974;
 ghost use mathlib.Core.Path.{_≡_};
@@ -109,11 +110,12 @@ pub fn whole(t: Line) -> bool
     !t.wrong & (t.count == 3)
 }
 
-// The setting that the line asks for; its set is the 1974 set, for no refusal looks at a set.
+// The setting that the line asks for: an EDS-8 of the 1974 set, for no refusal looks at a kind or a set.
 pub fn setting_of(t: Line) -> Setting
     ensures { λ r. ⌜ r ≡ settingOf t ⌝ }
 {
     Setting {
+        kind: Kind::Eds8,
         block: t.block,
         ports: t.ports,
         base: t.base,

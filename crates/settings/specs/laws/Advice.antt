@@ -5,6 +5,7 @@
 --   advised-block, advised-ports   a size that passes is kept, whatever else is wrong
 --   advised-kept                   what setup takes is advised as it stands
 --   any-set                        setup's number and what is advised are the same, whatever set of special codes a school chooses (document 02, K5)
+--   any-kind                       the same of the kind of unit (document 02, K6)
 -- Not here: what is advised, in specs/Advice.
 -- Assumes nothing.
 use mathlib.Core.Path.{_≡_, refl, ap, _∙_}
@@ -16,10 +17,12 @@ use native.Mathlib.Omega.{arith}
 use lib.Dec.{eqb, ltb}
 use borrow.Author.Tests.{eqb-false, ltb-true, ltb-false, ne-eqb, le-ltb}
 use Rattle.ground.specs.Choose.{pick}
+use Rattle.interrupt.specs.declared.Kind.{Kind}
 use Rattle.unit.specs.declared.mux.Setting.{Setting}
 use Rattle.unit.specs.Refusals.{MOST-PORTS, tooHigh, refusal, ofSetup}
 use Rattle.unit.specs.Sound.{IsBlock, eight, sixteen, thirty-two, SizeFits, BaseFits, AreaFits}
 use Rattle.unit.specs.laws.Sound.{by-block, setup-iff}
+use Rattle.unit.specs.laws.Kind.{ofKind, kind-unread}
 use Rattle.unit.specs.laws.Set.{choosing, refusal-unread}
 use Rattle.settings.specs.Advice.{blockMended, portsMended, sizesMended, inMemory, multipleBelow, lastBase, baseMended, withBase, lowered, advised}
 
@@ -87,19 +90,22 @@ last-in-memory a x h g = go (ltb 32767 a)
     go true = g
     go false = h
 
+-- a setting with other sizes and another base
+abbrev sized-at : Setting → ℕ → ℕ → ℕ → Setting
+sized-at o b n a = record { kind = o .kind; block = b; ports = n; base = a; special = o .special }
+
 -- the rows of the base and of the area pass
-abbrev Area : List Bool → ℕ → ℕ → ℕ → Type 0
-Area codes b n a =
-    BaseFits (record { block = b; ports = n; base = a; special = codes }) × AreaFits (record { block = b; ports = n; base = a; special = codes })
+abbrev Area : Setting → ℕ → ℕ → ℕ → Type 0
+Area o b n a = BaseFits (sized-at o b n a) × AreaFits (sized-at o b n a)
 
 -- so they do of a multiple of 8 blocks, if the area lies in a stretch of 128 blocks that begins in the memory
-abbrev Stretch : List Bool → ℕ → ℕ → ℕ → ℕ → Type 0
-Stretch codes n x k b =
-    0 < n → x % (8 * b) ≡ 0 → k * (128 * b) ≤ x → x + n * b ≤ k * (128 * b) + 128 * b → k * (128 * b) ≤ 32767 → Area codes b n x
+abbrev Stretch : Setting → ℕ → ℕ → ℕ → ℕ → Type 0
+Stretch o n x k b =
+    0 < n → x % (8 * b) ≡ 0 → k * (128 * b) ≤ x → x + n * b ≤ k * (128 * b) + 128 * b → k * (128 * b) ≤ 32767 → Area o b n x
 
-stretch : (codes : List Bool) (n x k b : ℕ) → IsBlock b → Stretch codes n x k b
-stretch codes n x k =
-    by-block (Stretch codes n x k)
+stretch : (o : Setting) (n x k b : ℕ) → IsBlock b → Stretch o n x k b
+stretch o n x k =
+    by-block (Stretch o n x k)
     (λ p m f g l. (record { aligned = m; low = omega arith }, record { one = omega arith }))
     (λ p m f g l. (record { aligned = m; low = omega arith }, record { one = omega arith }))
     (λ p m f g l. (record { aligned = m; low = omega arith }, record { one = omega arith }))
@@ -120,19 +126,19 @@ last : (n a b : ℕ) → IsBlock b → Last n a b
 last n a = by-block (Last n a) (λ q. (omega arith, omega arith)) (λ q. (omega arith, omega arith)) (λ q. (omega arith, omega arith))
 
 -- so they pass of the first where it is below the second
-near-area : (codes : List Bool) (b n a : ℕ) → IsBlock b → 0 < n → n ≤ 128 → a ≤ 32767 → multipleBelow (8 * b) a < lastBase b n a → Area codes b n (multipleBelow (8 * b) a)
-near-area codes b n a i p q l h =
+near-area : (o : Setting) (b n a : ℕ) → IsBlock b → 0 < n → n ≤ 128 → a ≤ 32767 → multipleBelow (8 * b) a < lastBase b n a → Area o b n (multipleBelow (8 * b) a)
+near-area o b n a i p q l h =
     let d = div-add-mod' a (128 * b) in
     let m = near a b i in
     let r = last n a b i q in
-    stretch codes n (multipleBelow (8 * b) a) (a / (128 * b)) b i p (m .0) (omega arith) (omega arith) (omega arith)
+    stretch o n (multipleBelow (8 * b) a) (a / (128 * b)) b i p (m .0) (omega arith) (omega arith) (omega arith)
 
 -- and always of the second
-last-area : (codes : List Bool) (b n a : ℕ) → IsBlock b → 0 < n → n ≤ 128 → a ≤ 32767 → Area codes b n (lastBase b n a)
-last-area codes b n a i p q l =
+last-area : (o : Setting) (b n a : ℕ) → IsBlock b → 0 < n → n ≤ 128 → a ≤ 32767 → Area o b n (lastBase b n a)
+last-area o b n a i p q l =
     let d = div-add-mod' a (128 * b) in
     let r = last n a b i q in
-    stretch codes n (lastBase b n a) (a / (128 * b)) b i p (r .0) (omega arith) (omega arith) (omega arith)
+    stretch o n (lastBase b n a) (a / (128 * b)) b i p (r .0) (omega arith) (omega arith) (omega arith)
 
 -- no base at or below a of which they pass is above either
 abbrev NotAbove : ℕ → ℕ → ℕ → ℕ → Type 0
@@ -147,14 +153,14 @@ not-above n a x =
     (λ p q l m o. (omega arith, omega arith))
 
 -- what is said of the lower of the two: they pass, it is at or below the base typed, and no higher one passes there
-record Mended (codes : List Bool) (b n a x : ℕ) : Type 0 where
-  area : Area codes b n x
+record Mended (o : Setting) (b n a x : ℕ) : Type 0 where
+  area : Area o b n x
   below : x ≤ a
-  last : (y : ℕ) → y ≤ a → Area codes b n y → y ≤ x
+  last : (y : ℕ) → y ≤ a → Area o b n y → y ≤ x
 
-mended : (codes : List Bool) (b n a : ℕ) → IsBlock b → 0 < n → n ≤ 128 → Mended codes b n a (baseMended b n a)
+mended : (o : Setting) (b n a : ℕ) → IsBlock b → 0 < n → n ≤ 128 → Mended o b n a (baseMended b n a)
 unfolding baseMended pick
-mended codes b n a i p q = go (ltb lower higher) refl
+mended o b n a i p q = go (ltb lower higher) refl
   where
     lower : ℕ
     lower = multipleBelow (8 * b) (inMemory a)
@@ -162,16 +168,16 @@ mended codes b n a i p q = go (ltb lower higher) refl
     higher : ℕ
     higher = lastBase b n (inMemory a)
 
-    go : (t : Bool) → ltb lower higher ≡ t → Mended codes b n a (pick t lower higher)
+    go : (t : Bool) → ltb lower higher ≡ t → Mended o b n a (pick t lower higher)
     go true e =
         record {
-          area = near-area codes b n (inMemory a) i p q (in-memory a .0) (ltb-true lower higher e);
+          area = near-area o b n (inMemory a) i p q (in-memory a .0) (ltb-true lower higher e);
           below = omega (arith, in-memory a .1);
           last = λ y h r. not-above n (inMemory a) y b i p q (last-in-memory a y h (r .0 .low)) (r .0 .aligned) (r .1 .one) .0;
         }
     go false e =
         record {
-          area = last-area codes b n (inMemory a) i p q (in-memory a .0);
+          area = last-area o b n (inMemory a) i p q (in-memory a .0);
           below = omega (arith, ltb-false lower higher e, in-memory a .1);
           last = λ y h r. not-above n (inMemory a) y b i p q (last-in-memory a y h (r .0 .low)) (r .0 .aligned) (r .1 .one) .1;
         }
@@ -179,9 +185,9 @@ mended codes b n a i p q = go (ltb lower higher) refl
 -- ---- what is advised
 
 -- what is said of the base that is advised
-based : (s : Setting) → Mended (sizesMended s .special) (sizesMended s .block) (sizesMended s .ports) (s .base) (advised s .base)
+based : (s : Setting) → Mended (sizesMended s) (sizesMended s .block) (sizesMended s .ports) (s .base) (advised s .base)
 unfolding advised sizesMended
-based s = let f = sized s in mended (sizesMended s .special) _ _ (s .base) (f .block) (f .some-port) (f .few-ports)
+based s = let f = sized s in mended (sizesMended s) _ _ (s .base) (f .block) (f .some-port) (f .few-ports)
 
 -- setup takes what is advised
 pub advised-taken : (s : Setting) → refusal (ofSetup (advised s)) ≡ 0
@@ -215,7 +221,7 @@ pub advised-kept : (s : Setting) → refusal (ofSetup s) ≡ 0 → advised s ≡
 unfolding advised
 advised-kept s e =
     let f = setup-iff s .0 e in
-    let m = mended (s .special) (s .block) (s .ports) (s .base) (f .size .block) (f .size .some-port) (f .size .few-ports) in
+    let m = mended s (s .block) (s .ports) (s .base) (f .size .block) (f .size .some-port) (f .size .few-ports) in
     let b : baseMended (s .block) (s .ports) (s .base) ≡ s .base = omega (arith, m .below, m .last (s .base) (omega arith) (f .base, f .area)) in
     ap lowered (sizes-kept s (f .size)) ∙ ap (λ (a : ℕ). withBase s a) b
 
@@ -223,3 +229,8 @@ advised-kept s e =
 pub any-set : (codes : List Bool) (s : Setting) → (refusal (ofSetup (choosing codes s)) ≡ refusal (ofSetup s)) × (advised (choosing codes s) ≡ choosing codes (advised s))
 unfolding advised sizesMended
 any-set codes s = (refusal-unread codes codes (ofSetup s), refl)
+
+-- nor is a kind
+pub any-kind : (k : Kind) (s : Setting) → (refusal (ofSetup (ofKind k s)) ≡ refusal (ofSetup s)) × (advised (ofKind k s) ≡ ofKind k (advised s))
+unfolding advised sizesMended
+any-kind k s = (kind-unread k s, refl)

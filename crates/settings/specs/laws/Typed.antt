@@ -15,6 +15,7 @@ use lib.Dec.{ltb}
 use borrow.Author.Tests.{ne-eqb, lt-ltb, le-ltb}
 use Rattle.ground.specs.Choose.{pick}
 use Rattle.words.specs.Special.{set1974}
+use Rattle.interrupt.specs.declared.Kind.the-variants.{Eds8}
 use Rattle.unit.specs.declared.mux.Setting.{Setting}
 use Rattle.unit.specs.Refusals.{refusal, ofSetup}
 use Rattle.driver.specs.Text.{isDigit, Turned, came, silent}
@@ -98,7 +99,7 @@ three b n a h g f =
     ap (λ (ys : List ℕ). foldl taken (and (and blank b) n) (32 ∷ ys)) (sym (append-nil (decimal a))) ∙ space (and blank b) n a [] f (omega arith) refl
 
 -- so it is answered by what setup says of exactly those
-pub line-read : (b n a : ℕ) → b < 4294967296 → n < 4294967296 → a < 4294967296 → answerTo (foldl taken blank (spelled b n a)) ≡ told (record { block = b; ports = n; base = a; special = set1974 })
+pub line-read : (b n a : ℕ) → b < 4294967296 → n < 4294967296 → a < 4294967296 → answerTo (foldl taken blank (spelled b n a)) ≡ told (record { kind = Eds8; block = b; ports = n; base = a; special = set1974 })
 line-read b n a h g f = ap answerTo (three b n a h g f)
 
 -- and what was typed before the end of a line leaves no trace on the next
