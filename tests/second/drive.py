@@ -12,6 +12,7 @@ MODULUS, FACTOR = 2147483647, 65599
 SETUP, ARRIVAL, TRANSMITTED, DEVICE_STATUS = 1, 2, 3, 4
 RESET, IOPLS, START, DOC, DOB, DIA, DIAS, TICK = range(5, 13)
 INSPECT, SWEEP = 13, 14
+KIND, POKE_STACK = 15, 16
 WRITE, FILL, WORDS, PLACES, POKE, POKE_PORT, SPEED = range(20, 27)
 CODE, CODES, POKE_CODE = range(27, 30)
 DIGEST, END = 30, 31
@@ -19,10 +20,10 @@ CALLS = range(SETUP, SWEEP + 1)
 PRINTED = (*CALLS, SPEED, DIGEST, END)            # the orders that print a line
 NAMES = {1: 'setup', 2: 'arrival', 3: 'transmitted', 4: 'device_status', 5: 'reset', 6: 'iopls',
          7: 'start', 8: 'doc', 9: 'dob', 10: 'dia', 11: 'dias', 12: 'tick', 13: 'inspect',
-         14: 'sweep', 20: 'host write', 21: 'fill memory', 22: 'memory lent', 23: 'list lent',
+         14: 'sweep', 15: 'kind', 16: 'poke stack', 20: 'host write', 21: 'fill memory', 22: 'memory lent', 23: 'list lent',
          24: 'poke', 25: 'poke port', 26: 'speed', 27: 'code of the set', 28: 'whole set', 29: 'poke code',
          30: 'whole digest', 31: 'end of session'}
-FIELDS = ('block', 'ports', 'base', 'pos', 'runs', 'clock', 'irq', 'status')
+FIELDS = ('block', 'ports', 'base', 'pos', 'runs', 'clock', 'irq', 'status', 'kind', 'lost', 'fill')
 PORT_FIELDS = mux2.Port._fields
 
 
@@ -35,9 +36,11 @@ def weights(count):
 
 
 MEMORY_WEIGHTS, MEMORY_START = weights(mux2.ROOM)
-FIRST_PORT = len(FIELDS) + mux2.CODES             # what stands before the ports: the scalars and the set
+FIRST_CODE = len(FIELDS) + mux2.STACK             # what stands before the set: the scalars and the stack
+FIRST_PORT = FIRST_CODE + mux2.CODES
 RECORD_WEIGHTS, RECORD_START = weights(FIRST_PORT + len(PORT_FIELDS) * mux2.ARRAY)
-SCALAR_WEIGHTS, SET_WEIGHTS = RECORD_WEIGHTS[:len(FIELDS)], RECORD_WEIGHTS[len(FIELDS):FIRST_PORT]
+SCALAR_WEIGHTS, STACK_WEIGHTS = RECORD_WEIGHTS[:len(FIELDS)], RECORD_WEIGHTS[len(FIELDS):FIRST_CODE]
+SET_WEIGHTS = RECORD_WEIGHTS[FIRST_CODE:FIRST_PORT]
 PORT_WEIGHTS = [RECORD_WEIGHTS[k:k + len(PORT_FIELDS)]
                 for k in range(FIRST_PORT, len(RECORD_WEIGHTS), len(PORT_FIELDS))]
 
@@ -84,12 +87,18 @@ class RecordDigest:
                     self.parts[p] = sum(w * x for w, x in zip(PORT_WEIGHTS[p], numbers_of(port)))
             self.seen = list(record.port)
             self.ports = sum(self.parts)
-        scalars = (record.block, record.ports, record.base, record.pos,
-                   record.runs, record.clock, record.irq, record.status)
-        return (RECORD_START + set_part(record.codes) + self.ports
+        scalars = (record.block, record.ports, record.base, record.pos, record.runs, record.clock, record.irq,
+                   record.status, record.kind, record.lost, record.fill)
+        return (RECORD_START + stack_part(record.stack) + set_part(record.codes) + self.ports
                 + sum(w * x for w, x in zip(SCALAR_WEIGHTS, scalars))) % MODULUS
 
     ports = 0
+
+
+@lru_cache(maxsize=1024)
+def stack_part(stack):
+    """A stack's part of the digest; most calls leave it as it is."""
+    return sum(w * word for w, word in zip(STACK_WEIGHTS, stack))
 
 
 @lru_cache(maxsize=1024)
@@ -103,7 +112,7 @@ def numbers_of(port):
 
 
 class Driver:
-    """A second program, the digests of what it holds and the set that a setup is given."""
+    """A second program, the digests of what it holds, the kind and the set that a setup is given."""
 
     def __init__(self, program=mux2.Mux2):
         self.program = program
@@ -113,6 +122,7 @@ class Driver:
         self.mux = self.program(WatchedMemory())
         self.record_digest = RecordDigest()
         self.codes = self.program.set_1974
+        self.kind = mux2.EDS_8
 
     def drive(self, order):
         """Carries one order out; the line to print, or None."""
@@ -126,7 +136,7 @@ class Driver:
             return self.line(op, code, made, used, self.record(), self.window(rest[1]),
                              digest(mux.places[:mux.lent_places]))
         if op == SETUP:
-            code, made = mux.setup(*rest[:3], self.codes)
+            code, made = mux.setup(*rest[:3], self.codes, self.kind)
             if code == 0 or rest[3]:
                 mux.record = made
             return self.line(op, code, RecordDigest().of(made), self.record())
@@ -137,6 +147,10 @@ class Driver:
             return self.line(op, getattr(mux, NAMES[op])(*rest), self.record())
         if op == WRITE:
             mux.host_write(*rest)
+        elif op == KIND:
+            self.kind = rest[0]
+        elif op == POKE_STACK:
+            mux.record.stack = mux2.with_word(mux.record.stack, *rest)
         elif op == FILL:
             self.fill(rest[0])
         elif op == WORDS:

@@ -3,7 +3,7 @@
 A mutant is mux2.py with one piece of its text replaced, seldom more. The test fails if a
 mutant prints every line of the fixed set as mux2 does. Those marked `seen` are the
 errors that document 01 has seen other emulators make. Those of K5 must be told apart
-by the session of the sets, the others by the other sessions.
+by the session of the sets, those of K6 by the sessions of the stack, the others by the other sessions.
 
     mutants.py [--quiet]
 """
@@ -121,7 +121,7 @@ MUTANTS = [
      "            return self.output(p)\n",
      "            r.pos = 0\n            return self.output(p)\n"),
     ('seen: port number for the address',
-     "address = (r.base // r.block + p) % 128", "address = p"),
+     "return (r.base // r.block + p) % 128", "return p"),
     ('seen: byte stored before the pointer',
      "            memory.put(block + 4, pointer)\n"
      "            memory.put_byte(pointer, BYTE_OF[stored])\n",
@@ -257,11 +257,11 @@ MUTANTS = [
     ('reset keeps the speed', "control=port.control[:5] + (0, 0, 0)", "control=port.control"),
     ('reset drops the Device Status line', ", line=port.line)", ")"),
     ('DIAS reads after the clear',
-     "        value = self.record.status\n        self.clear_status()\n",
-     "        self.clear_status()\n        value = self.record.status\n"),
-    ('DIA clears', "return (code, 0) if code else (0, self.record.status)",
+     "        value = self.read_status('dias')\n        self.clear_status('dias')\n",
+     "        self.clear_status('dias')\n        value = self.read_status('dias')\n"),
+    ('DIA clears', "return (code, 0) if code else (0, self.read_status('dia'))",
      "return (code, 0) if code else self.dias()"),
-    ('START keeps the flag', "self.record.irq = self.record.status = 0", "self.record.status = 0"),
+    ('START keeps the flag', "        r.irq = r.status = 0\n", "        r.status = 0\n"),
     ('tick without the clock', "        if self.record.clock:\n", "        if True:\n"),
     ('tick clears the status word',
      "            status = bits_of(self.record.status)\n            status[0] = 1\n",
@@ -424,18 +424,18 @@ MUTANTS = [
     # Interrupt and sweep.
     ('status bit 1 never set', "            status[1] = 1\n", ""),
     ('status bit 1 only for the other kind',
-     "        if status[2] or status[3]:", "        if status[5 - kind]:"),
+     "        if status[2] or status[3]:", "        if status[5 - bit]:"),
     ('status bits 2 and 3 exchanged',
-     "        status[kind] = 1\n", "        status[5 - kind] = 1\n"),
-    ('old address bits stay', "status[4:11] = BYTE_BITS[address][1:]",
-     "status[4:11] = [a | b for a, b in zip(status[4:11], BYTE_BITS[address][1:])]"),
+     "        status[bit] = 1\n", "        status[5 - bit] = 1\n"),
+    ('old address bits stay', "status[4:11] = BYTE_BITS[self.address(p)][1:]",
+     "status[4:11] = [a | b for a, b in zip(status[4:11], BYTE_BITS[self.address(p)][1:])]"),
     ('status bits 11 to 15 kept', "        status[11:16] = [0] * 5\n", ""),
     ('flag not raised',
      "        r.status = word_of(status)\n        r.irq = 1\n",
      "        r.status = word_of(status)\n"),
     ('sweep does not stop on an interrupt',
-     "else 'sweep: stops on an interrupt')\n                break\n",
-     "else 'sweep: stops on an interrupt')\n"),
+     "                self.note_stop(full, made == n)\n                break\n",
+     "                self.note_stop(full, made == n)\n"),
     ('sweep stops on a byte',
      "            if answer.raised:\n", "            if answer.raised or answer.sent:\n"),
     ('list place skipped', "self.places[used] =", "self.places[used + 1] ="),
@@ -461,7 +461,7 @@ CHANGES = {
     'Device Status': "        self.change(p, line=level)\n",
     'reset': "        r.runs = r.clock = r.irq = r.status = r.pos = 0\n",
     'IOPLS': "            self.record.clock = 1\n",
-    'START': "        self.record.irq = self.record.status = 0\n",
+    'START': "        r.irq = r.status = 0\n",
     'DOC': "            self.record.runs = 1\n",
     'DOB': "            self.record.runs = 0\n",
     'tick': "            self.record.irq = 1\n",
@@ -586,6 +586,495 @@ SET_MUTANTS = [
 ]
 
 
+# The Mighty Mux's rules (02, K6), as mux2.py has them: an interrupt, its entry, a reading, a START; what a reset does.
+QUEUES = """\
+        r.irq = 1
+        if r.fill < STACK:
+            r.stack = with_word(r.stack, r.fill, self.entry(p, bit))
+            r.fill += 1
+        else:
+            r.lost = 1
+"""
+ENTRY = """\
+        entry[bit] = 1
+        entry[4:11] = BYTE_BITS[self.address(p)][1:]
+        return word_of(entry)
+"""
+READS = """\
+        word[0] = bits_of(r.status)[0]
+        if r.fill > 0:
+            word[1] = r.lost
+            word[2:16] = bits_of(r.stack[0])[2:16]
+        return word_of(word)
+"""
+REMOVES = """\
+        r.status = 0
+        if r.fill > 0:
+            r.stack = r.stack[1:] + (0,)
+            r.fill -= 1
+        r.irq = int(r.fill > 0)
+        if r.fill == 0:
+            r.lost = 0
+"""
+RESETS, RESETS_STACK = "        r.lost = r.fill = 0 ", "        r.stack = EMPTY_STACK\n"
+TOO_MANY, ASKED_LATE = "        if r.fill > STACK:\n", "        if self.record.fill > STACK:\n            return 6\n"
+MIGHTY = "self.record.kind == MIGHTY_MUX"
+FULL = f"({MIGHTY} and self.record.fill == STACK)"
+QUEUED, LOST = "with_word(r.stack, r.fill, self.entry(p, bit))", "            r.lost = 1\n"
+MOVED, FLAG = "r.stack[1:] + (0,)", "        r.irq = int(r.fill > 0)\n"
+CLEARED = "        if r.fill == 0:\n            r.lost = 0\n"
+
+# Wrong interrupts: a piece of the rule and what stands in its place.
+WRONG_QUEUES = {
+    'are put before the others': (QUEUED, "(self.entry(p, bit),) + r.stack[:-1]"),
+    'are put behind the oldest': (QUEUED, "r.stack[:1] + (self.entry(p, bit),) + r.stack[1:-1] if r.fill else "
+                                  "(self.entry(p, bit),) + r.stack[1:]"),
+    'are put in order of their words': (
+        QUEUED, "tuple(sorted(r.stack[:r.fill] + (self.entry(p, bit),))) + r.stack[r.fill + 1:]"),
+    'are put over the newest': (QUEUED, "with_word(r.stack, max(r.fill - 1, 0), self.entry(p, bit))"),
+    'clear the places behind': (QUEUED, "r.stack[:r.fill] + (self.entry(p, bit),) + EMPTY_STACK[r.fill + 1:]"),
+    'are merged with the word that is there': (QUEUED, "with_word(r.stack, r.fill, r.stack[r.fill] | self.entry(p, bit))"),
+    'that find 40 overwrite the last': (LOST, LOST + "            r.stack = r.stack[:-1] + (self.entry(p, bit),)\n"),
+    'that find 40 overwrite the first': (LOST, LOST + "            r.stack = (self.entry(p, bit),) + r.stack[1:]\n"),
+    'that find 40 push the oldest out': (LOST, LOST + "            r.stack = r.stack[1:] + (self.entry(p, bit),)\n"),
+    'that find 40 push the oldest out without a mark': (LOST, "            r.stack = r.stack[1:] + (self.entry(p, bit),)\n"),
+    'that find 40 empty the stack': (LOST, LOST + "            r.stack, r.fill = EMPTY_STACK, 0\n"),
+    'that find 40 are counted': (LOST, LOST + "            r.fill += 1\n"),
+    'that find 40 leave no mark': (LOST, "            pass\n"),
+    'that find 40 leave their mark in the oldest entry': (
+        LOST, "            r.stack = (r.stack[0] | 16384,) + r.stack[1:]\n"),
+    'that find 40 turn the mark round': (LOST, "            r.lost = 1 - r.lost\n"),
+    'that find 40 leave the flag': ("        r.irq = 1\n        if r.fill < STACK:\n",
+                                    "        if r.fill < STACK:\n            r.irq = 1\n"),
+    'leave the flag': ("        r.irq = 1\n", ""),
+    'leave the flag beside others': ("        r.irq = 1\n", "        r.irq = r.irq if r.fill else 1\n"),
+    'clear the mark': ("            r.fill += 1\n", "            r.fill += 1\n            r.lost = 0\n"),
+    'that take the last place are marked as lost': ("            r.fill += 1\n",
+                                                    "            r.fill += 1\n            r.lost |= int(r.fill == STACK)\n"),
+    'find 39 places': ("if r.fill < STACK:", "if r.fill < STACK - 1:"),
+    'find 41 places': ("if r.fill < STACK:", "if r.fill < STACK + 1:"),
+    'find 20 places': ("if r.fill < STACK:", "if r.fill < STACK // 2:"),
+    'find no place while the mark is set': ("if r.fill < STACK:", "if r.fill < STACK and not r.lost:"),
+    'find no freed place until the stack is empty': (
+        "        if r.fill < STACK:\n",
+        "        self.filled = r.fill and (r.fill == STACK or getattr(self, 'filled', 0))\n"
+        "        if r.fill < STACK and not self.filled:\n"),
+    'like one that waits are not queued': (
+        "        if r.fill < STACK:\n", "        if self.entry(p, bit) in r.stack[:r.fill]:\n            pass\n"
+        "        elif r.fill < STACK:\n"),
+    'like the newest are not queued': (
+        "        if r.fill < STACK:\n", "        if r.fill and self.entry(p, bit) == r.stack[r.fill - 1]:\n            pass\n"
+        "        elif r.fill < STACK:\n"),
+    'of a port that waits are merged': (
+        "        if r.fill < STACK:\n",
+        "        if r.fill and self.entry(p, 0) % 4096 == r.stack[r.fill - 1] % 4096:\n"
+        "            r.stack = with_word(r.stack, r.fill - 1, r.stack[r.fill - 1] | self.entry(p, bit))\n"
+        "        elif r.fill < STACK:\n"),
+    'change the status word as well': (
+        "        r.irq = 1\n", "        r.irq = 1\n        r.status = r.status // 32768 * 32768 + self.entry(p, bit)\n"),
+    'clear the status word': ("        r.irq = 1\n", "        r.irq, r.status = 1, 0\n"),
+    'clear bit 0': ("        r.irq = 1\n", "        r.irq = 1\n        r.status %= 32768\n"),
+    'clear status bits 1 to 15': ("        r.irq = 1\n", "        r.irq = 1\n        r.status -= r.status % 32768\n"),
+    'set status bit 1 beside others': (
+        "        r.irq = 1\n", "        r.irq = 1\n        r.status |= 16384 if r.fill else 0\n"),
+    'make an EDS-8': ("        r.irq = 1\n", "        r.irq, r.kind = 1, EDS_8\n"),
+    'that find 40 set status bit 1': (LOST, LOST + "            r.status |= 16384\n"),
+}
+
+# Wrong entries: a piece of the rule and what stands in its place.
+ADDRESS = "BYTE_BITS[self.address(p)][1:]"
+WRONG_ENTRIES = {
+    'have the port number': (ADDRESS, "BYTE_BITS[p][1:]"),
+    'have the address of the next port': (ADDRESS, "BYTE_BITS[self.address(p + 1)][1:]"),
+    'have the address of port 0': (ADDRESS, "BYTE_BITS[self.address(0)][1:]"),
+    'have no address': (ADDRESS, "[0] * 7"),
+    'have six bits of the address': (ADDRESS, "BYTE_BITS[self.address(p) % 64][1:]"),
+    'have the address of blocks of 32': (ADDRESS, "BYTE_BITS[(self.record.base // 32 + p) % 128][1:]"),
+    'have the address backwards': (ADDRESS, ADDRESS.replace("[1:]", "[:0:-1]")),
+    'have the address in bits 9 to 15': ("entry[4:11]", "entry[9:16]"),
+    'have the address in bits 5 to 11': ("entry[4:11]", "entry[5:12]"),
+    'have no bit 2 or 3': ("        entry[bit] = 1\n", ""),
+    'have both bits 2 and 3': ("entry[bit] = 1", "entry[2] = entry[3] = 1"),
+    'have bits 2 and 3 exchanged': ("entry[bit]", "entry[5 - bit]"),
+    'have bit 1 where another is stacked': ("        entry[bit] = 1\n",
+                                            "        entry[bit] = 1\n        entry[1] = int(self.record.fill > 0)\n"),
+    'have bit 1 where one is lost': (
+        "        entry[bit] = 1\n", "        entry[bit] = 1\n        entry[1] = self.record.lost\n"),
+    'have bit 0 where a tick stands': ("        entry[bit] = 1\n",
+                                       "        entry[bit] = 1\n        entry[0] = self.record.status // 32768\n"),
+    'have bit 15': ("        entry[bit] = 1\n", "        entry[bit] = entry[15] = 1\n"),
+    'have the number of entries in bits 11 to 15': (
+        "        entry[bit] = 1\n", "        entry[bit] = 1\n        entry[11:16] = BYTE_BITS[self.record.fill % 32][3:]\n"),
+}
+
+# Wrong readings: a piece of the rule and what stands in its place.
+OLDEST = "bits_of(r.stack[0])[2:16]"
+RETURNED = "        return word_of(word)\n"
+WRONG_READINGS = {
+    'shows the newest': (OLDEST, "bits_of(r.stack[r.fill - 1])[2:16]"),
+    'shows the second': (OLDEST, "bits_of(r.stack[1])[2:16]"),
+    'shows the last place': (OLDEST, "bits_of(r.stack[39])[2:16]"),
+    'shows all entries merged': (OLDEST, "[int(any(bits)) for bits in zip(*map(bits_of, r.stack[:r.fill]))][2:16]"),
+    'shows no entry': ("        if r.fill > 0:\n", "        if False:\n"),
+    'shows no single entry': ("        if r.fill > 0:\n", "        if r.fill > 1:\n"),
+    'shows no entry without the flag': ("        if r.fill > 0:\n", "        if r.fill > 0 and r.irq:\n"),
+    'shows no entry beside bit 0': ("        if r.fill > 0:\n", "        if r.fill > 0 and not word[0]:\n"),
+    'shows no entry beside the lost mark': (OLDEST, f"[0] * 14 if r.lost else {OLDEST}"),
+    'shows place 0 without an entry': ("        if r.fill > 0:\n", "        if True:\n"),
+    'shows the address of place 0 without an entry': (
+        RETURNED, "        word[4:11] = bits_of(r.stack[0])[4:11]\n" + RETURNED),
+    'never shows bit 1': ("word[1] = r.lost", "word[1] = 0"),
+    'shows bit 1 without an entry': ("            word[1] = r.lost\n", "", RETURNED, "        word[1] = r.lost\n" + RETURNED),
+    'shows bit 1 of the entry': ("word[1] = r.lost", "word[1] = bits_of(r.stack[0])[1]"),
+    'shows bit 1 of the entry as well': ("word[1] = r.lost", "word[1] = r.lost | bits_of(r.stack[0])[1]"),
+    'shows bit 1 for more than one entry': ("word[1] = r.lost", "word[1] = int(r.fill > 1)"),
+    'shows bit 1 for a full stack': ("word[1] = r.lost", "word[1] = int(r.fill == STACK)"),
+    'shows bit 1 of a full stack alone': ("word[1] = r.lost", "word[1] = int(r.lost and r.fill == STACK)"),
+    'shows bit 1 with the last entry alone': ("word[1] = r.lost", "word[1] = int(r.lost and r.fill == 1)"),
+    'shows bit 1 of the status word': ("word[1] = r.lost", "word[1] = bits_of(r.status)[1]"),
+    'never shows bit 0': ("word[0] = bits_of(r.status)[0]", "word[0] = 0"),
+    'shows bit 0 of the entry': (
+        "            word[1] = r.lost\n", "            word[0] = bits_of(r.stack[0])[0]\n            word[1] = r.lost\n"),
+    'shows bit 0 of the entry as well': (
+        "            word[1] = r.lost\n", "            word[0] |= bits_of(r.stack[0])[0]\n            word[1] = r.lost\n"),
+    'shows bit 0 with an entry alone': (RETURNED, "        word[0] = word[0] if r.fill else 0\n" + RETURNED),
+    'shows bit 0 without an entry alone': (RETURNED, "        word[0] = 0 if r.fill else word[0]\n" + RETURNED),
+    'shows the flag as bit 0': ("word[0] = bits_of(r.status)[0]", "word[0] = r.irq"),
+    'shows the status word without an entry': (RETURNED, "        word = word if r.fill else bits_of(r.status)\n" + RETURNED),
+    'shows the status word': (RETURNED, "        word = bits_of(r.status)\n" + RETURNED),
+    'shows the status word merged': (RETURNED, "        word = [a | b for a, b in zip(word, bits_of(r.status))]\n" + RETURNED),
+    'shows no bits 11 to 15': (OLDEST, "bits_of(r.stack[0])[2:11] + [0] * 5"),
+    'shows bit 2 or 3, never both': (RETURNED, "        word[3] = word[3] and 1 - word[2]\n" + RETURNED),
+    'removes the oldest': (
+        RETURNED, "        if r.fill > 0:\n            r.stack, r.fill = r.stack[1:] + (0,), r.fill - 1\n" + RETURNED),
+    'clears the lost mark': (RETURNED, "        r.lost = 0\n" + RETURNED),
+    'clears bit 0 of the oldest entry': (RETURNED, "        r.stack = (r.stack[0] % 32768,) + r.stack[1:]\n" + RETURNED),
+}
+WRONG_DIA = {                                           # what a START does afterwards, so that DIAS would not show it
+    'clears bit 0': (RETURNED, "        r.status %= 32768\n" + RETURNED),
+    'clears the flag': (RETURNED, "        r.irq = 0\n" + RETURNED),
+    'clears the flag without an entry': (RETURNED, "        r.irq = r.irq if r.fill else 0\n" + RETURNED),
+    'clears the status word': (RETURNED, "        r.status = 0\n" + RETURNED),
+    'sets the flag beside entries': (RETURNED, "        r.irq = int(r.irq or r.fill > 0)\n" + RETURNED),
+}
+
+# Wrong STARTs: a piece of the rule and what stands in its place.
+MOVES = "            r.stack = r.stack[1:] + (0,)\n            r.fill -= 1\n"
+WRONG_STARTS = {
+    'removes the newest': (MOVES, "            r.fill -= 1\n            r.stack = with_word(r.stack, r.fill, 0)\n"),
+    'empties the stack': (MOVES, "            r.stack, r.fill = EMPTY_STACK, 0\n"),
+    'empties a stack that lost one': (
+        MOVES, MOVES + "            if r.lost:\n                r.stack, r.fill = EMPTY_STACK, 0\n"),
+    'removes none': (MOVES, "            pass\n"),
+    'removes two': (
+        MOVES, MOVES + "            r.stack, r.fill = (r.stack[1:] + (0,), r.fill - 1) if r.fill else (r.stack, 0)\n"),
+    'removes none of one': ("        if r.fill > 0:\n", "        if r.fill > 1:\n"),
+    'removes none of 40': ("        if r.fill > 0:\n", "        if 0 < r.fill < STACK:\n"),
+    'removes none beside bit 0': ("        r.status = 0\n        if r.fill > 0:\n",
+                                  "        tick, r.status = r.status >= 32768, 0\n        if r.fill > 0 and not tick:\n"),
+    'removes none without the flag': ("        if r.fill > 0:\n", "        if r.fill > 0 and r.irq:\n"),
+    'removes none that lost one': ("        if r.fill > 0:\n", "        if r.fill > 0 and not r.lost:\n"),
+    'only counts': ("            r.stack = r.stack[1:] + (0,)\n", ""),
+    'only moves': ("            r.fill -= 1\n", ""),
+    'leaves the last place': (MOVED, "r.stack[1:] + r.stack[-1:]"),
+    'turns the stack round': (MOVED, "r.stack[1:] + r.stack[:1]"),
+    'moves the entries alone': (MOVED, "r.stack[1:r.fill] + (0,) + r.stack[r.fill:]"),
+    'clears the freed place': (MOVED, "with_word(r.stack[1:] + (0,), r.fill - 1, 0)"),
+    'clears every free place': (MOVED, "r.stack[1:r.fill] + (0,) * (STACK + 1 - r.fill)"),
+    'moves words without an entry': ("        if r.fill > 0:\n", "        r.stack = r.stack if r.fill else r.stack[1:] + (0,)\n"
+                                     "        if r.fill > 0:\n"),
+    'clears words without an entry': ("        if r.fill > 0:\n", "        r.stack = r.stack if r.fill else EMPTY_STACK\n"
+                                      "        if r.fill > 0:\n"),
+    'moves only 39 places': (MOVED, "r.stack[1:39] + (0,) + r.stack[39:]"),
+    'turns the flag off while entries remain': (FLAG, "        r.irq = 0\n"),
+    'turns the flag off while one remains': (FLAG, "        r.irq = int(r.fill > 1)\n"),
+    'leaves the flag on after the last': (
+        "        if r.fill > 0:\n            r.stack", "        had = r.fill > 0\n        if r.fill > 0:\n            r.stack",
+        FLAG, "        r.irq = int(had)\n"),
+    'leaves the flag without an entry': (
+        "        if r.fill > 0:\n            r.stack", "        had = r.fill > 0\n        if r.fill > 0:\n            r.stack",
+        FLAG, "        r.irq = int(r.fill > 0) if had else r.irq\n"),
+    'leaves the flag': (FLAG, ""),
+    'turns the flag on always': (FLAG, "        r.irq = 1\n"),
+    'leaves a flag that is off': (FLAG, "        r.irq = int(r.fill > 0 and r.irq)\n"),
+    'leaves the flag on for bit 0': ("        r.status = 0\n", "        tick, r.status = r.status // 32768, 0\n",
+                                     FLAG, "        r.irq = int(r.fill > 0 or tick)\n"),
+    'leaves the flag on for a lost one': (FLAG, "        r.irq = int(r.fill > 0 or r.lost)\n"),
+    'keeps bit 0': ("r.status = 0\n", "r.status -= r.status % 32768\n"),
+    'keeps bit 0 while entries remain': ("r.status = 0\n", "r.status -= r.status % 32768 if r.fill > 1 else r.status\n"),
+    'keeps bit 0 beside entries': ("r.status = 0\n", "r.status -= r.status % 32768 if r.fill > 0 else r.status\n"),
+    'keeps bit 0 without an entry': ("r.status = 0\n", "r.status -= r.status if r.fill else r.status % 32768\n"),
+    'keeps status bits 1 to 15': ("r.status = 0\n", "r.status %= 32768\n"),
+    'keeps the status word': ("        r.status = 0\n", ""),
+    'always clears the lost mark': (CLEARED, "        r.lost = 0\n"),
+    'never clears the lost mark': (CLEARED, ""),
+    'clears the lost mark with the last entry alone': (
+        CLEARED, "", "            r.fill -= 1\n", "            r.fill -= 1\n            r.lost = r.lost if r.fill else 0\n"),
+    'clears the lost mark without an entry alone': (
+        CLEARED, "", "        if r.fill > 0:\n            r.stack",
+        "        r.lost = r.lost if r.fill else 0\n        if r.fill > 0:\n            r.stack"),
+    'clears the lost mark when one entry remains': ("        if r.fill == 0:\n", "        if r.fill <= 1:\n"),
+    'clears the lost mark when a place is free': ("        if r.fill == 0:\n", "        if r.fill < STACK:\n"),
+    'clears the lost mark when 38 entries remain': ("        if r.fill == 0:\n", "        if r.fill in (0, 38):\n"),
+    'makes an EDS-8': ("        r.status = 0\n", "        r.status, r.kind = 0, EDS_8\n"),
+}
+
+
+def put(rule, pieces):
+    """A rule with each of these pieces, found once in it, replaced by the one that follows it."""
+    for old, new in zip(pieces[::2], pieces[1::2]):
+        if rule.count(old) != 1:
+            raise ValueError(f'found {rule.count(old)} times, not once: {old!r}')
+        rule = rule.replace(old, new)
+    return rule
+
+
+def where(test, wrong, rule):
+    """A wrong rule where the test holds, and the right one elsewhere."""
+    def inside(text):
+        return ''.join('    ' + line for line in text.splitlines(keepends=True))
+
+    return f"        if {test}:\n{inside(wrong)}        else:\n{inside(rule)}"
+
+
+def by_each(rule, wrongs, tests):
+    """Each wrong rule in the rule's place, by each test alone."""
+    return [(f'{whose} {name}', rule, where(test, put(rule, pieces), rule))
+            for name, pieces in wrongs.items() for whose, test in tests.items()]
+
+
+BY_SERVICE = {'inputs': "bit == 2", 'outputs': "bit == 3"}
+BY_READING = {'DIA': "call == 'dia'", 'DIAS, reading,': "call == 'dias'"}
+BY_START = {'START': "call == 'start'", 'DIAS': "call == 'dias'"}
+
+INPUT_DONE = "            memory.put(block, word_of(icw))\n            self.interrupt(p, 2)\n"
+OUTPUT_WRITTEN = "        memory.put(block + 1, word_of(ocw))\n        self.hit('output: done'"
+OUTPUT_DONE = "            self.interrupt(p, 3)\n"
+NOT_RAISED = f"            lost = {FULL}\n{{}}            done = not lost\n"
+SERVES = "        if port.held:\n            self.hit('turn: input')"
+DIAS_READS = "        value = self.read_status('dias')\n        self.clear_status('dias')\n"
+TICKS = "            self.record.irq = 1\n"
+TICKS_STATUS = "            self.record.status = word_of(status)\n"
+PUSHES = ("            if {} and self.record.fill < STACK:\n"
+          "                self.record.stack = with_word(self.record.stack, self.record.fill, {})\n"
+          "                self.record.fill += 1\n")
+STOPS = "            if answer.raised:\n"
+MADE_KIND = "            made.kind = kind\n"
+EDS_8_STARTS, EDS_8_READS = "        r.irq = r.status = 0\n", "        return r.status\n"
+EDS_8_RAISES = "        r.status = word_of(status)\n        r.irq = 1\n"
+IS_MIGHTY = "r.kind == MIGHTY_MUX"                      # where a call asks for the kind
+BY_KIND = {what: f"        if {IS_MIGHTY}:\n            {then}\n" for what, then in (
+    ('START', "self.remove_oldest(call)"), ('DIA', "return self.oldest(call)"), ('interrupt', "self.queue(p, bit)"))}
+REMOVAL = ("self.record.stack, self.record.fill = "
+           "(self.record.stack[1:] + (0,), self.record.fill - 1) if self.record.fill else (self.record.stack, 0)")
+
+# Of the forty-deep interrupt stack (02, K6).
+STACK_MUTANTS = [
+    *by_each(QUEUES, WRONG_QUEUES, BY_SERVICE),
+    *by_each(ENTRY, WRONG_ENTRIES, BY_SERVICE),
+    *by_each(READS, WRONG_READINGS, BY_READING),
+    *by_each(READS, WRONG_DIA, {'DIA': "call == 'dia'"}),
+    *by_each(REMOVES, WRONG_STARTS, BY_START),
+    ('last in, first out', OLDEST, WRONG_READINGS['shows the newest'][1], MOVES, WRONG_STARTS['removes the newest'][1]),
+    ('DIAS does START before reading', DIAS_READS,
+     f"        if {MIGHTY}:\n            self.clear_status('dias')\n            value = self.read_status('dias')\n"
+     "        else:\n            value = self.read_status('dias')\n            self.clear_status('dias')\n"),
+    ('DIAS does no START', DIAS_READS,
+     f"        value = self.read_status('dias')\n        if not {MIGHTY}:\n            self.clear_status('dias')\n"),
+    ('DIAS does START twice', DIAS_READS, DIAS_READS + f"        if {MIGHTY}:\n            self.clear_status('dias')\n"),
+
+    # The service of an interrupt that is lost.
+    ('lost input not raised in the answer', INPUT_DONE, NOT_RAISED.format(INPUT_DONE)),
+    ('lost output not raised in the answer', OUTPUT_DONE, NOT_RAISED.format(OUTPUT_DONE)),
+    ('lost interrupt not raised in the answer', INPUT_DONE, NOT_RAISED.format(INPUT_DONE),
+     OUTPUT_DONE, NOT_RAISED.format(OUTPUT_DONE)),
+    ("queued interrupt not raised in a Mighty Mux's answer", INPUT_DONE, INPUT_DONE + f"            done = not {MIGHTY}\n"),
+    ("lost input's ICW not written", INPUT_DONE,
+     f"            if not {FULL}:\n                memory.put(block, word_of(icw))\n            self.interrupt(p, 2)\n"),
+    ("lost input's ICW written without INDONE", INPUT_DONE,
+     f"            icw[0] = int(not {FULL})\n" + INPUT_DONE),
+    ("lost output's OCW not written", OUTPUT_WRITTEN,
+     f"        if not (done and {FULL}):\n            memory.put(block + 1, word_of(ocw))\n        self.hit('output: done'"),
+    ("lost output's OCW written without OUTDONE", OUTPUT_WRITTEN,
+     f"        ocw[0] = int(done and not {FULL})\n" + OUTPUT_WRITTEN),
+    ('service waits while the stack is full', SERVES,
+     f"        if {FULL}:\n            return Answer(IDLE, p, 0, 0, 0)\n" + SERVES),
+    ('position stays at a lost interrupt', OUTPUT_DONE,
+     f"            self.record.pos = p if {FULL} else self.record.pos\n" + OUTPUT_DONE),
+    ('character kept at a lost interrupt', INPUT_DONE,
+     f"            if {FULL}:\n                self.change(p, held=1, byte=port.byte)\n" + INPUT_DONE),
+    ('sweep goes on after a lost interrupt', STOPS, f"            if answer.raised and not (full and {MIGHTY}):\n"),
+    ('sweep goes on after a queued interrupt', STOPS, f"            if answer.raised and (full or not {MIGHTY}):\n"),
+    ('sweep goes on until the stack is full', STOPS,
+     f"            if answer.raised and (self.record.fill == STACK or not {MIGHTY}):\n"),
+    ('sweep of a full stack makes none', "        made = used = 0\n",
+     f"        made = used = 0\n        n = 0 if {FULL} else n\n"),
+    ('sweep counts a lost interrupt twice', "        return 0, made, used\n",
+     f"        return 0, made + ({FULL} and self.record.lost), used\n"),
+    ('sweep stops where entries wait', STOPS, f"            if answer.raised or ({MIGHTY} and self.record.fill > 1):\n"),
+
+    # The clock, of a Mighty Mux.
+    ('tick pushes an entry', TICKS, TICKS + PUSHES.format(MIGHTY, 32768)),
+    ('tick pushes an entry of 0', TICKS, TICKS + PUSHES.format(MIGHTY, 0)),
+    ('tick at a full stack sets the lost mark', TICKS,
+     TICKS + f"            if {FULL}:\n                self.record.lost = 1\n"),
+    ('tick does not set the flag', TICKS, f"            self.record.irq = self.record.irq if {MIGHTY} else 1\n"),
+    ('tick sets the flag without entries alone', TICKS,
+     f"            self.record.irq = self.record.irq if {MIGHTY} and self.record.fill else 1\n"),
+    ('tick does not set bit 0', TICKS_STATUS,
+     f"            self.record.status = self.record.status if {MIGHTY} else word_of(status)\n"),
+    ('tick does not set bit 0 beside entries', TICKS_STATUS,
+     f"            self.record.status = self.record.status if {MIGHTY} and self.record.fill else word_of(status)\n"),
+    ('tick sets bit 0 of the oldest entry', TICKS_STATUS,
+     f"            if {MIGHTY} and self.record.fill:\n"
+     "                self.record.stack = (self.record.stack[0] | 32768,) + self.record.stack[1:]\n"
+     f"            else:\n    {TICKS_STATUS}"),
+    ('tick clears the other status bits', TICKS_STATUS,
+     f"            self.record.status = 32768 if {MIGHTY} else word_of(status)\n"),
+    ('tick of an EDS-8 pushes an entry', TICKS, TICKS + PUSHES.format("not " + MIGHTY, 32768)),
+    ('tick without the clock on a Mighty Mux', "        if self.record.clock:\n",
+     f"        if self.record.clock or {MIGHTY}:\n"),
+
+    # Reset.
+    ('reset keeps the lost mark', RESETS, "        r.fill = 0 "),
+    ('reset keeps the entries', RESETS, "        r.lost = 0 ", RESETS_STACK, ""),
+    ('reset keeps the number of entries', RESETS, "        r.lost = 0 "),
+    ('reset keeps the words', RESETS_STACK, ""),
+    ('reset keeps one entry', RESETS, "        r.fill, r.lost = min(r.fill, 1), 0 ", RESETS_STACK,
+     "        r.stack = r.stack[:r.fill] + EMPTY_STACK[r.fill:]\n"),
+    ('reset removes one entry', RESETS, "        r.fill, r.lost = max(r.fill - 1, 0), 0 ",
+     RESETS_STACK, "        r.stack = r.stack[1:] + (0,)\n"),
+    ('reset keeps words past the last entry', RESETS, "        fill, r.lost, r.fill = r.fill, 0, 0 ",
+     RESETS_STACK, "        r.stack = EMPTY_STACK[:fill] + r.stack[fill:]\n"),
+    ('reset keeps the last place', RESETS_STACK, "        r.stack = EMPTY_STACK[1:] + r.stack[-1:]\n"),
+    ('reset keeps the first place', RESETS_STACK, "        r.stack = r.stack[:1] + EMPTY_STACK[1:]\n"),
+    ('reset keeps words without an entry', RESETS, "        fill, r.lost, r.fill = r.fill, 0, 0 ",
+     RESETS_STACK, "        r.stack = EMPTY_STACK if fill else r.stack\n"),
+    *[(f'reset keeps all of the stack, {kind}',
+       RESETS, f"        r.lost, r.fill = (r.lost, r.fill) if r.kind == {kind} else (0, 0) ",
+       RESETS_STACK, f"        r.stack = r.stack if r.kind == {kind} else EMPTY_STACK\n") for kind in ('EDS_8', 'MIGHTY_MUX')],
+    ('reset keeps the lost mark, EDS-8', RESETS, "        r.lost, r.fill = 0 if r.kind else r.lost, 0 "),
+    ('reset keeps bit 0', "r.runs = r.clock = r.irq = r.status = r.pos = 0",
+     "r.status -= r.status % 32768 if r.kind else r.status\n        r.runs = r.clock = r.irq = r.pos = 0"),
+    ('reset keeps the flag', "r.runs = r.clock = r.irq = r.status = r.pos = 0",
+     "r.irq = r.irq if r.kind else 0\n        r.runs = r.clock = r.status = r.pos = 0"),
+    ('reset keeps the status word', "r.runs = r.clock = r.irq = r.status = r.pos = 0",
+     "r.status = r.status if r.kind else 0\n        r.runs = r.clock = r.irq = r.pos = 0"),
+    ('reset loses the kind', RESETS, "        r.kind = EDS_8\n" + RESETS),
+    ('reset makes a Mighty Mux', RESETS, "        r.kind = MIGHTY_MUX\n" + RESETS),
+
+    # Setup and the kind.
+    *[(f'setup gives {name}', MADE_KIND, f"            made.kind = {wrong}\n") for name, wrong in (
+        ('an EDS-8', "EDS_8"), ('a Mighty Mux', "MIGHTY_MUX"), ('the kind that the unit has', "self.record.kind"),
+        ('the other kind', "1 - kind"), ('an EDS-8 in blocks of 8', "kind and int(b > 8)"),
+        ('an EDS-8 in blocks of 32', "kind and int(b < 32)"), ('an EDS-8 of one port', "kind and int(ports > 1)"))],
+    *[(f'setup gives {name}', MADE_KIND, MADE_KIND + wrong) for name, wrong in (
+        ('the entries of the unit', "            made.stack, made.fill = self.record.stack, self.record.fill\n"),
+        ('the lost mark of the unit', "            made.lost = self.record.lost\n"),
+        ('the words of the unit', "            made.stack = self.record.stack\n"),
+        ('the status word of the unit', "            made.status = self.record.status\n"),
+        ('the flag of the unit', "            made.irq = self.record.irq\n"),
+        ('a Mighty Mux with its flag on', "            made.irq = kind\n"),
+        ('a Mighty Mux with its lost mark set', "            made.lost = kind\n"),
+        ('a Mighty Mux that runs', "            made.runs = kind\n"))],
+    ('refused setup keeps the kind', MADE, MADE + "        made.kind = kind\n"),
+    ('refused setup gives the kind of the unit', MADE, MADE + "        made.kind = self.record.kind\n"),
+    ('refused setup gives a Mighty Mux', "self.kind = EDS_8\n", "self.kind = MIGHTY_MUX\n"),
+    ('refused setup gives the entries of the unit', MADE,
+     MADE + "        made.stack, made.fill = (self.record.stack, self.record.fill) if code else (EMPTY_STACK, 0)\n"),
+    ('refused setup changes the kind of the unit', SETUP_ASKS,
+     SETUP_ASKS + "        self.record.kind = kind if code else self.record.kind\n"),
+    ('refused setup empties the stack of the unit', SETUP_ASKS,
+     SETUP_ASKS + "        self.record.fill = 0 if code else self.record.fill\n"),
+    ('setup of a Mighty Mux refused', SETUP_ASKS, SETUP_ASKS + "        code = code or (4 if kind else 0)\n"),
+    ("a Mighty Mux's base stricter", SETUP_ASKS, SETUP_ASKS + "        code = code or (3 if kind and base % 256 else 0)\n"),
+    ("setup of a Mighty Mux asks no row 3", SETUP_ASKS, SETUP_ASKS + "        code = 0 if kind and code == 3 else code\n"),
+    ('setup asks the old record', SETUP_ASKS, SETUP_ASKS + "        code = code or (4 if self.record.fill > STACK else 0)\n"),
+    ('kind kept from setup, whatever the record has since', MADE_KIND, MADE_KIND + "            self.given = kind\n",
+     BY_KIND['interrupt'], BY_KIND['interrupt'].replace("r.kind", "getattr(self, 'given', r.kind)")),
+
+    # Soundness.
+    *[(name, TOO_MANY, f"        if {wrong}:\n") for name, wrong in (
+        ('40 entries unsound', "r.fill >= STACK"), ('41 entries sound', "r.fill > STACK + 1"),
+        ('42 entries sound', "r.fill > STACK and r.fill != 42"),
+        ('any number of entries sound', "False"), ('all entries sound', "STACK < r.fill < 4294967295"),
+        ('too many entries unsound in a Mighty Mux alone', "r.fill > STACK and r.kind == MIGHTY_MUX"),
+        ('too many entries unsound in an EDS-8 alone', "r.fill > STACK and r.kind == EDS_8"),
+        ('40 entries unsound in an EDS-8', "r.fill > STACK or (r.fill == STACK and r.kind == EDS_8)"),
+        ('40 entries unsound in a Mighty Mux', "r.fill > STACK or (r.fill == STACK and r.kind == MIGHTY_MUX)"),
+        ('number of entries cut to 8 bits', "r.fill % 256 > STACK"),
+        ('number of entries cut to 16 bits', "r.fill % 65536 > STACK"),
+        ('number of entries cut to 31 bits', "r.fill % 2147483648 > STACK"),
+        ('number of entries taken with a sign', "STACK < r.fill < 2147483648"),
+        ('an EDS-8 with an entry unsound', "r.fill > STACK or (r.fill and r.kind == EDS_8)"),
+        ('an EDS-8 with a lost mark unsound', "r.fill > STACK or (r.lost and r.kind == EDS_8)"),
+        ('an EDS-8 with words in its stack unsound', "r.fill > STACK or (any(r.stack) and r.kind == EDS_8)"),
+        ('words past the last entry unsound', "r.fill > STACK or any(r.stack[r.fill:])"),
+        ('words past the last entry unsound in a Mighty Mux',
+         "r.fill > STACK or (any(r.stack[r.fill:]) and r.kind == MIGHTY_MUX)"),
+        ('a lost mark without an entry unsound', "r.fill > STACK or (r.lost and not r.fill and r.kind == MIGHTY_MUX)"),
+        ('a lost mark with a free place unsound', "r.fill > STACK or (r.lost and r.fill < STACK and r.kind == MIGHTY_MUX)"),
+        ('entries with the flag off unsound', "r.fill > STACK or (r.fill and not r.irq and r.kind == MIGHTY_MUX)"),
+        ('status bits 1 to 15 unsound in a Mighty Mux', "r.fill > STACK or (r.status % 32768 and r.kind == MIGHTY_MUX)"),
+        ('entries with bit 0 or 1 unsound', "r.fill > STACK or any(word > 16383 for word in r.stack[:r.fill])"),
+        ('entries with neither bit 2 nor 3 unsound', "r.fill > STACK or not all(word & 12288 for word in r.stack[:r.fill])"))],
+    *[(f'too many entries asked {when}', TOO_MANY, "        if False:\n", row, ASKED_LATE + row) for when, row in (
+        ('after the memory', "        if port is not None and port >= self.record.ports:\n"),
+        ('after the port', "        if inspections is not None and inspections > 4096:\n"),
+        ('after the count', "        if inspections is not None and self.lent_places < inspections:\n"),
+        ('last', "        return 0\n\n    def refusal("))],
+    *[(f'{call} accepted with too many entries', "        code = self.table(memory, port, inspections)\n",
+       f"        fill = self.record.fill\n        if call == '{call}':\n            self.record.fill = 0\n"
+       "        code = self.table(memory, port, inspections)\n        self.record.fill = fill if code else min(fill, STACK)\n")
+      for call in ('start', 'dia', 'dias', 'tick', 'reset', 'arrival', 'inspect', 'sweep', 'doc')],
+    ('too many entries mended by a refused call', "            self.hit(f'unsound: too many",
+     "            r.fill = STACK\n            self.hit(f'unsound: too many"),
+    *[(f'stack of {places} places', "STACK = 40 ", f"STACK = {places} ") for places in (39, 41, 32, 64)],
+
+    # An EDS-8 leaves the stack alone.
+    ('EDS-8 pushes entries', EDS_8_RAISES, EDS_8_RAISES + "        if r.fill < STACK:\n"
+     "            r.stack, r.fill = with_word(r.stack, r.fill, self.entry(p, bit)), r.fill + 1\n"),
+    ('EDS-8 pushes an entry beside others', EDS_8_RAISES, EDS_8_RAISES + "        if 0 < r.fill < STACK:\n"
+     "            r.stack, r.fill = with_word(r.stack, r.fill, self.entry(p, bit)), r.fill + 1\n"),
+    ('EDS-8 writes an entry and does not count it', EDS_8_RAISES,
+     EDS_8_RAISES + "        r.stack = with_word(r.stack, 0, self.entry(p, bit))\n"),
+    ('EDS-8 with 40 entries sets the lost mark', EDS_8_RAISES, EDS_8_RAISES + "        r.lost |= int(r.fill == STACK)\n"),
+    ('EDS-8 with 40 entries raises nothing', EDS_8_RAISES,
+     "        if r.fill < STACK:\n            r.status = word_of(status)\n            r.irq = 1\n"),
+    ('EDS-8 interrupt clears the lost mark', EDS_8_RAISES, EDS_8_RAISES + "        r.lost = 0\n"),
+    ('EDS-8 START empties the stack', EDS_8_STARTS,
+     EDS_8_STARTS + "        r.fill, r.stack = 0, EMPTY_STACK\n"),
+    ('EDS-8 START removes the oldest', EDS_8_STARTS, EDS_8_STARTS + f"        {REMOVAL}\n"),
+    ('EDS-8 START clears the lost mark', EDS_8_STARTS, EDS_8_STARTS + "        r.lost = 0\n"),
+    ('EDS-8 START clears the lost mark without an entry', EDS_8_STARTS,
+     EDS_8_STARTS + "        r.lost = r.lost if r.fill else 0\n"),
+    ('EDS-8 flag stays on while entries remain', EDS_8_STARTS,
+     "        r.status = 0\n        r.irq = int(r.fill > 0)\n"),
+    ('EDS-8 DIA shows an entry', EDS_8_READS,
+     "        return r.stack[0] if r.fill else r.status\n"),
+    ('EDS-8 DIA shows the lost mark', EDS_8_READS, "        return r.status | 16384 * r.lost\n"),
+    ('EDS-8 DIA shows bit 0 alone', EDS_8_READS, "        return r.status // 32768 * 32768\n"),
+    ('EDS-8 has the stack', *[text for asks in BY_KIND.values() for text in (asks, asks.replace(IS_MIGHTY, "True"))]),
+    ('Mighty Mux has the merged status word',
+     *[text for asks in BY_KIND.values() for text in (asks, asks.replace(IS_MIGHTY, "False"))]),
+    *[(f'Mighty Mux {what} as an EDS-8', asks, asks.replace(IS_MIGHTY, "False")) for what, asks in BY_KIND.items()],
+    ('Mighty Mux interrupt as both', BY_KIND['interrupt'] + "            return\n", BY_KIND['interrupt']),
+    ('one stack for every record', "        self.stack = EMPTY_STACK ", "        pass ",
+     "class Record:\n", "class Record:\n    stack = EMPTY_STACK\n",
+     "            r.stack = with_word(r.stack, r.fill, self.entry(p, bit))\n",
+     "            Record.stack = with_word(r.stack, r.fill, self.entry(p, bit))\n"),
+
+    # Every other call keeps the kind, the entries, the words and the lost mark.
+    *[(f'{call} {loses}', change, f"{change[:len(change) - len(change.lstrip())]}{wrong}\n{change}")
+      for call, change in CHANGES.items() for loses, wrong in (
+          ('makes an EDS-8', "self.record.kind = EDS_8"), ('makes a Mighty Mux', "self.record.kind = MIGHTY_MUX"),
+          ('drops the entries', "self.record.fill = 0"), ('clears the words', "self.record.stack = EMPTY_STACK"),
+          ('clears the lost mark', "self.record.lost = 0"), ('sets the lost mark', "self.record.lost = 1"),
+          ('removes an entry', REMOVAL))
+      if call != 'reset' and (call, loses) not in (('START', 'makes an EDS-8'), ('interrupt', 'makes an EDS-8'))],
+]
+
+
 def program(*texts):
     """The second program with each piece of its text in `texts` replaced by the one that follows it."""
     source = SOURCE
@@ -613,13 +1102,15 @@ def first_difference(mutant, author):
 
 def main():
     began = time.time()
-    alive = {name: program(*texts) for name, *texts in MUTANTS + SET_MUTANTS}
-    of_sets = {name for name, *_ in SET_MUTANTS}
-    count = len(MUTANTS) + len(SET_MUTANTS)
-    if len(alive) < count:
+    groups = {'sets': SET_MUTANTS, 'stack': STACK_MUTANTS, 'others': MUTANTS}
+    group_of = {name: group for group, wrong in groups.items() for name, *_ in wrong}
+    count = sum(map(len, groups.values()))
+    if len(group_of) < count:
         sys.exit('two mutants have one name')
+    alive = {name: program(*texts) for wrong in groups.values() for name, *texts in wrong}
     for number, (author, _) in enumerate(sessions.fixed_set(), 1):
-        for name in [name for name in alive if (name in of_sets) == (author.kind == 'sets')]:
+        group = {'sets': 'sets', **dict.fromkeys(sessions.OF_THE_STACK, 'stack')}.get(author.kind, 'others')
+        for name in [name for name in alive if group_of[name] == group]:
             call = first_difference(alive[name], author)
             if call is not None:
                 del alive[name]

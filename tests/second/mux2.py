@@ -1,10 +1,10 @@
-"""A second EDS-8, for comparison with the proved one.
+"""A second EDS-8 and Mighty Mux, for comparison with the proved ones.
 
-Written from document 01, requests K1, K2, K5 and K10 of document 02 (K4 asks nothing of it), the 1974 manual
-(001) and the readings of docs/DECISIONS.md, without sight of the definitions or the code. It takes
+Written from document 01, requests K1, K2, K5, K6 and K10 of document 02 (K4 asks nothing of it), the manuals of 1974
+(001) and 1982 (000) and the readings of docs/DECISIONS.md, without sight of the definitions or the code. It takes
 another road than the proved program: a word is a list of sixteen 0s and 1s indexed by the
-manual's bit numbers, a port is an immutable object, and memory is a bytearray
-in which a byte pointer is simply an index. Each branch of document 01 has a
+manual's bit numbers, a port is an immutable object, a stack is a tuple, and memory is a bytearray
+in which a byte pointer is simply an index. Each branch of document 01 and of K6 has a
 name, and `reached` counts how often it was taken.
 """
 
@@ -15,7 +15,10 @@ ROOM = 40000                    # words kept here, so that other lengths can be 
 PLACES = 4200                   # places kept for a sweep's list
 ARRAY = 128                     # places in the record's array of ports
 CODES = 128                     # the seven-bit codes
+STACK = 40                      # places of a Mighty Mux's stack (000, 2.4.7)
 
+EDS_8, MIGHTY_MUX = range(2)                            # the kinds of unit (02, K6)
+KIND_NAMES = ('EDS-8', 'Mighty Mux')
 NOTHING, IDLE, INPUT, OUTPUT = range(4)                 # what a turn may be
 Answer = namedtuple('Answer', 'turn port sent byte raised')
 NO_ANSWER = Answer(NOTHING, 0, 0, 0, 0)
@@ -69,12 +72,23 @@ DICTIONARY = with_code(SET_1974, GLOTTAL_STOP, 0)
 EVERY_CODE, NO_CODE = set_of(range(CODES)), set_of(())
 
 
+EMPTY_STACK = (0,) * STACK
+
+
+def with_word(stack, place, word):
+    """A stack with this word in this place and every other as it was."""
+    return stack[:place] + (word,) + stack[place + 1:]
+
+
 class Record:
     """What the unit remembers; as made here, the record of zeros."""
 
     def __init__(self):
         self.block = self.ports = self.base = self.pos = 0
         self.runs = self.clock = self.irq = self.status = 0
+        self.kind = EDS_8
+        self.lost = self.fill = 0       # the lost mark and the number of entries
+        self.stack = EMPTY_STACK        # the oldest entry in place 0; those past the last entry are free
         self.codes = NO_CODE            # the set of special codes
         self.port = [ZERO_PORT] * ARRAY
 
@@ -135,6 +149,41 @@ SAID = ('input 5: special', 'input 6: ordinary in 7-bit ASCII',
         'output 01: special, asked for', 'output 01: ordinary, special asked for')
 SAID_OF = ('unlike 1974', 'glottal stop', 'top bit 1')
 
+# What the stack of a Mighty Mux may meet (02, K6), and what an EDS-8 or a reset may find of one.
+SERVICES = {2: 'input', 3: 'output'}
+CALLS = (*PLAIN_CALLS, *LINE_CALLS, 'inspect', 'sweep')
+OVERFULL = {STACK + 1: 'one', 4294967295: 'all'}        # how many entries too many
+REMOVALS = ('none there', 'none there, lost mark cleared', 'entries remain', 'entries remain, lost mark kept',
+            'the last', 'the last, lost mark cleared')
+STACK_BRANCHES = (
+    [f'setup {verdict} as {kind}' for verdict in ('accepted', 'refused') for kind in KIND_NAMES]
+    + [f'{call} {verdict}, {kind}' for call in CALLS for kind in KIND_NAMES
+       for verdict in ('accepted with 40 entries', 'refused 6 with too many entries')]
+    + [f'unsound: too many entries by {count}, {kind}' for count in (*OVERFULL.values(), 'some') for kind in KIND_NAMES]
+    + [f'stack: {service} queued in {place}' for service in SERVICES.values()
+       for place in ('the first place', 'a place between', 'the last place')]
+    + [f'stack: {service} lost, {mark}' for service in SERVICES.values() for mark in ('the first', 'a further one')]
+    + [f'stack: address unlike the port number, b {b}' for b in BLOCKS]
+    + ['stack: address like the port number', 'stack: freed place used again', 'stack: last place used again',
+       'stack: queued beside the lost mark', 'stack: queued over a word that is not 0',
+       'stack: queued before words that are not 0', 'stack: raised beside a tick', 'stack: raised beside status bits 1 to 15',
+       'stack: raised with the flag off beside entries']
+    + [f'{call}: {entry}, {mark}, bit 0 {bit}' for call in ('dia', 'dias') for entry in ('an entry', 'no entry')
+       for mark in ('lost mark', 'no lost mark') for bit in ('on', 'off')]
+    + [f'{call}: {what}' for call in ('dia', 'dias') for what in (
+        'bits 0 and 1 of an entry not shown', 'status bits 1 to 15 not shown', 'place 0 not shown without an entry')]
+    + [f'{call} removes: {what}' for call in ('start', 'dias') for what in REMOVALS]
+    + [f'{call} on a Mighty Mux: {what}' for call in ('start', 'dias') for what in (
+        'flag goes off', 'flag stays on', 'flag goes on', 'flag stays off', 'bit 0 cleared, entries remain',
+        'bit 0 cleared, none remain', 'status bits 1 to 15 cleared', 'words past the last entry move down',
+        'words stay without an entry')]
+    + [f'tick with the clock on, {kind}, {entry}' for kind in KIND_NAMES for entry in ('entries', 'no entry')]
+    + [f'EDS-8 with entries or the lost mark: {what}' for what in ('interrupt', 'start', 'dia', 'dias')]
+    + [f'reset, {kind}: {what}' for kind in KIND_NAMES for what in (
+        'entries dropped', 'lost mark cleared', 'words past the last entry cleared', 'stack empty')]
+    + [f'sweep: {where} a lost interrupt' for where in ('stops at', 'ends with')]
+    + ['sweep: stops at a queued interrupt'])
+
 BRANCHES = (
     [f'{call} refused {code}' for call, codes in REFUSALS.items() for code in codes]
     + [f'{call} accepted' for call in REFUSALS]
@@ -186,7 +235,9 @@ BRANCHES = (
         'not reported', 'fills the buffer', 'echoed', 'transmitter busy')]
     + ['reset keeps the 1974 set', 'reset keeps another set', 'input 6: five bits in 7-bit ASCII',
        'output 01: ordinary, special asked for', 'output 01: glottal stop passes the special request']
-    + [f'speed {code:03b}' for code in range(8)])
+    + [f'speed {code:03b}' for code in range(8)]
+    + STACK_BRANCHES)
+NONE_REACHED = dict.fromkeys(BRANCHES, 0)               # copied for each unit, as that is faster
 
 
 class Mux2:
@@ -199,8 +250,9 @@ class Mux2:
         self.memory = memory or Memory()
         self.places = [0] * PLACES      # the sweep's list
         self.lent_places = 0            # how many of them are lent
-        self.reached = dict.fromkeys(BRANCHES, 0)
+        self.reached = NONE_REACHED.copy()
         self.services = 0
+        self.highest = 0                # most entries since setup or reset, for a count alone
 
     def hit(self, branch):
         self.reached[branch] += 1
@@ -225,6 +277,9 @@ class Mux2:
         if r.pos >= r.ports:
             self.hit('unsound: position')
             return True
+        if r.fill > STACK:
+            self.hit(f'unsound: too many entries by {OVERFULL.get(r.fill, "some")}, {KIND_NAMES[r.kind]}')
+            return True
         return False
 
     def table(self, memory, port, inspections):
@@ -245,15 +300,26 @@ class Mux2:
         self.hit(f'{call} refused {code}' if code else f'{call} accepted')
         if code == 9 and self.lent_places < inspections:
             self.hit('sweep refused 9 before 10')
+        if self.record.fill >= STACK:
+            self.note_entries(call, code)
         return code
+
+    def note_entries(self, call, code):
+        """Counts the calls that find as many entries as there may be, or more; changes nothing."""
+        kind = KIND_NAMES[self.record.kind]
+        if code == 0:
+            self.hit(f'{call} accepted with 40 entries, {kind}')
+        elif code == 6 and self.record.fill > STACK:
+            self.hit(f'{call} refused 6 with too many entries, {kind}')
 
     # Setup gives a new record and leaves the old one.
 
-    def setup(self, b, ports, base, codes=SET_1974):
-        """A new unit with this set of special codes; no set is refused (02, K5)."""
+    def setup(self, b, ports, base, codes=SET_1974, kind=EDS_8):
+        """A new unit of this kind (02, K6) with this set of special codes; neither is refused (02, K5)."""
         code = self.setup_refusal(b, ports, base)
         self.hit(f'setup refused {code}' if code else 'setup accepted')
         self.note_set(code, tuple(codes))
+        self.note_kind(code, kind)
         if base > 32767:
             self.note_high_base(code, b, ports, base)
         self.note_area(code, b, base + ports * b)
@@ -261,12 +327,19 @@ class Mux2:
         if code == 0:
             made.block, made.ports, made.base = b, ports, base
             made.codes = tuple(codes)
+            made.kind = kind
             made.port = [FRESH_PORT] * ARRAY
         return code, made
 
     def note_set(self, code, codes):
         """Counts the sets that setups are given; changes nothing."""
         self.hit(f'setup {"refused" if code else "accepted"} with {SETS.get(codes, ANOTHER)}')
+
+    def note_kind(self, code, kind):
+        """Counts the kinds that setups are given; changes nothing."""
+        self.hit(f'setup {"refused" if code else "accepted"} as {KIND_NAMES[kind]}')
+        if code == 0:
+            self.highest = 0
 
     def note_high_base(self, code, b, ports, base):
         """Counts what stood beside a base that is too high; changes nothing."""
@@ -332,7 +405,10 @@ class Mux2:
             return code
         r = self.record
         self.hit('reset keeps the 1974 set' if r.codes == SET_1974 else 'reset keeps another set')
+        self.note_reset()
         r.runs = r.clock = r.irq = r.status = r.pos = 0
+        r.lost = r.fill = 0             # 02, K6: reset empties the stack and clears the lost mark
+        r.stack = EMPTY_STACK
         for p in range(ARRAY):
             port = r.port[p]
             if port.held:
@@ -344,6 +420,15 @@ class Mux2:
             r.port[p] = FRESH_PORT._replace(control=port.control[:5] + (0, 0, 0), line=port.line)
         return 0
 
+    def note_reset(self):
+        """Counts what a reset finds of a stack; changes nothing."""
+        r = self.record
+        met = {'entries dropped': r.fill, 'lost mark cleared': r.lost, 'words past the last entry cleared': any(r.stack[r.fill:]),
+               'stack empty': not r.fill}
+        for what in [what for what, is_met in met.items() if is_met]:
+            self.hit(f'reset, {KIND_NAMES[r.kind]}: {what}')
+        self.highest = 0
+
     def iopls(self):
         code = self.refusal('iopls')
         if code == 0:
@@ -353,11 +438,17 @@ class Mux2:
     def start(self):
         code = self.refusal('start')
         if code == 0:
-            self.clear_status()
+            self.clear_status('start')
         return code
 
-    def clear_status(self):
-        self.record.irq = self.record.status = 0
+    def clear_status(self, call):
+        """What START does, and DIAS after its reading."""
+        r = self.record
+        if r.kind == MIGHTY_MUX:
+            self.remove_oldest(call)
+            return
+        self.note_unused(call)
+        r.irq = r.status = 0
 
     def doc(self):
         code = self.refusal('doc')
@@ -373,15 +464,28 @@ class Mux2:
 
     def dia(self):
         code = self.refusal('dia')
-        return (code, 0) if code else (0, self.record.status)
+        return (code, 0) if code else (0, self.read_status('dia'))
 
     def dias(self):
         code = self.refusal('dias')
         if code:
             return code, 0
-        value = self.record.status
-        self.clear_status()
+        value = self.read_status('dias')
+        self.clear_status('dias')
         return 0, value
+
+    def read_status(self, call):
+        """What DIA returns, and DIAS before its START."""
+        r = self.record
+        if r.kind == MIGHTY_MUX:
+            return self.oldest(call)
+        self.note_unused(call)
+        return r.status
+
+    def note_unused(self, what):
+        """Counts what an EDS-8 does beside entries or a lost mark, which it leaves alone; changes nothing."""
+        if self.record.fill or self.record.lost:
+            self.hit(f'EDS-8 with entries or the lost mark: {what}')
 
     def tick(self):
         code = self.refusal('tick')
@@ -389,6 +493,8 @@ class Mux2:
             return code
         if self.record.clock:
             self.hit('tick with the clock on')
+            self.hit(f'tick with the clock on, {KIND_NAMES[self.record.kind]}, '
+                     + ('entries' if self.record.fill else 'no entry'))
             status = bits_of(self.record.status)
             status[0] = 1
             self.record.status = word_of(status)
@@ -670,9 +776,20 @@ class Mux2:
         if low_seven(character) == GLOTTAL_STOP and not last:
             self.hit('output 01: glottal stop passes the special request')
 
-    def interrupt(self, p, kind):
-        """Raises an interrupt; `kind` is the status bit, 2 for input and 3 for output."""
+    def address(self, p):
+        """What bits 4 to 10 say of port p, in a status word (document 01) and in an entry (000, Table 2-3) alike."""
         r = self.record
+        return (r.base // r.block + p) % 128
+
+    def interrupt(self, p, bit):
+        """Raises an interrupt; `bit` is the one that tells it, 2 for input and 3 for output."""
+        r = self.record
+        self.hit('interrupt: base below 128 blocks' if r.base // r.block < 128
+                 else 'interrupt: base of 128 blocks or more')
+        if r.kind == MIGHTY_MUX:
+            self.queue(p, bit)
+            return
+        self.note_unused('interrupt')
         status = bits_of(r.status)
         if status[2] or status[3]:
             self.hit('interrupt: more than one')
@@ -681,14 +798,100 @@ class Mux2:
             self.hit('interrupt: first')
         if status[0]:
             self.hit('interrupt beside a tick')
-        self.hit('interrupt: base below 128 blocks' if r.base // r.block < 128
-                 else 'interrupt: base of 128 blocks or more')
-        status[kind] = 1
-        address = (r.base // r.block + p) % 128
-        status[4:11] = BYTE_BITS[address][1:]
+        status[bit] = 1
+        status[4:11] = BYTE_BITS[self.address(p)][1:]
         status[11:16] = [0] * 5
         r.status = word_of(status)
         r.irq = 1
+
+    # The stack of a Mighty Mux (02, K6; 000, 2.4.7).
+
+    def entry(self, p, bit):
+        """The entry of an interrupt (000, Table 2-3): bit 2 or 3, the address in bits 4 to 10, all others 0."""
+        entry = [0] * 16
+        entry[bit] = 1
+        entry[4:11] = BYTE_BITS[self.address(p)][1:]
+        return word_of(entry)
+
+    def queue(self, p, bit):
+        """An interrupt (02, K6): the flag on, and an entry in the next place; one that finds 40 sets the lost mark instead."""
+        r = self.record
+        self.note_queue(p, bit)
+        r.irq = 1
+        if r.fill < STACK:
+            r.stack = with_word(r.stack, r.fill, self.entry(p, bit))
+            r.fill += 1
+        else:
+            r.lost = 1
+
+    def oldest(self, call):
+        """What DIA reads (02, K6): bit 0 beside the stack; with an entry, the lost mark (000, Table 2-3) and the oldest one."""
+        r = self.record
+        self.note_read(call)
+        word = [0] * 16
+        word[0] = bits_of(r.status)[0]
+        if r.fill > 0:
+            word[1] = r.lost
+            word[2:16] = bits_of(r.stack[0])[2:16]
+        return word_of(word)
+
+    def remove_oldest(self, call):
+        """What START does (02, K6): bit 0 cleared, the oldest entry removed, the flag on while any remain, the lost mark cleared
+        where none does."""
+        r = self.record
+        self.note_removal(call)
+        r.status = 0
+        if r.fill > 0:
+            r.stack = r.stack[1:] + (0,)
+            r.fill -= 1
+        r.irq = int(r.fill > 0)
+        if r.fill == 0:
+            r.lost = 0
+
+    def note_queue(self, p, bit):
+        """Counts what an interrupt of a Mighty Mux meets; changes nothing."""
+        r, service = self.record, SERVICES[bit]
+        if r.fill < STACK:
+            places = {0: 'the first place', STACK - 1: 'the last place'}
+            self.hit(f'stack: {service} queued in {places.get(r.fill, "a place between")}')
+            met = {'freed place used again': r.fill < self.highest, 'last place used again': STACK - 1 == r.fill < self.highest,
+                   'queued beside the lost mark': r.lost, 'queued over a word that is not 0': r.stack[r.fill],
+                   'queued before words that are not 0': any(r.stack[r.fill + 1:])}
+            self.highest = max(self.highest, r.fill + 1)
+        else:
+            self.hit(f'stack: {service} lost, ' + ('a further one' if r.lost else 'the first'))
+            met = {}
+        met.update({'raised beside a tick': r.status >= 32768, 'raised beside status bits 1 to 15': r.status % 32768,
+                    'raised with the flag off beside entries': r.fill and not r.irq,
+                    'address like the port number': self.address(p) == p,
+                    f'address unlike the port number, b {r.block}': self.address(p) != p})
+        for what in [what for what, is_met in met.items() if is_met]:
+            self.hit(f'stack: {what}')
+
+    def note_read(self, call):
+        """Counts what a reading of the stack meets; changes nothing."""
+        r = self.record
+        self.hit(f'{call}: {"an entry" if r.fill else "no entry"}, {"lost mark" if r.lost else "no lost mark"}, '
+                 f'bit 0 {"on" if r.status >= 32768 else "off"}')
+        met = {'bits 0 and 1 of an entry not shown': r.fill and r.stack[0] // 16384 == 3,
+               'status bits 1 to 15 not shown': r.status % 32768,
+               'place 0 not shown without an entry': not r.fill and r.stack[0]}
+        for what in [what for what, is_met in met.items() if is_met]:
+            self.hit(f'{call}: {what}')
+
+    def note_removal(self, call):
+        """Counts what a START finds; changes nothing."""
+        r = self.record
+        what, mark = {0: ('none there', 'cleared'), 1: ('the last', 'cleared')}.get(r.fill, ('entries remain', 'kept'))
+        self.hit(f'{call} removes: {what}' + (f', lost mark {mark}' if r.lost else ''))
+        remain = r.fill > 1
+        flag = ('stays on' if remain else 'goes off') if r.irq else ('goes on' if remain else 'stays off')
+        met = {f'flag {flag}': True, 'status bits 1 to 15 cleared': r.status % 32768,
+               f'bit 0 cleared, {"entries" if remain else "none"} remain': r.status >= 32768,
+               'words past the last entry move down': r.fill and any(r.stack[r.fill:]),
+               'words stay without an entry': not r.fill and any(r.stack)}
+        for what in [what for what, is_met in met.items() if is_met]:
+            self.hit(f'{call} on a Mighty Mux: {what}')
 
     # The sweep.
 
@@ -705,6 +908,7 @@ class Mux2:
             self.hit('sweep of 4096')
         made = used = 0
         while made < n:
+            full = self.record.fill == STACK
             answer = self.turn()
             made += 1
             if answer.sent:
@@ -716,10 +920,17 @@ class Mux2:
             if answer.raised:
                 self.hit('sweep: interrupt at the last one' if made == n
                          else 'sweep: stops on an interrupt')
+                self.note_stop(full, made == n)
                 break
         else:
             self.hit('sweep: all made')
         return 0, made, used
+
+    def note_stop(self, full, last):
+        """Counts what a Mighty Mux's stack makes of the interrupt that a sweep stops at; changes nothing."""
+        if self.record.kind == MIGHTY_MUX:
+            self.hit('sweep: stops at a queued interrupt' if not full else
+                     f'sweep: {"ends with" if last else "stops at"} a lost interrupt')
 
     # The host.
 

@@ -12,6 +12,7 @@ import mux2
 
 SEED, SESSIONS = 1974, 220          # the fixed set of the gate
 DIGEST_EVERY = 256                  # printed lines between two whole digests
+KIND_CALLS = 60                     # of the second part of a random session, in which setups choose the kind
 
 MANY, HIGH = 4294967295, 4294967040     # the largest number, and a multiple of every 8b below it
 CODES = (0, 13, 31, 32, 65, 123, 124, 125, 127)         # around the special codes
@@ -47,6 +48,9 @@ STOP_AT = NAME.index(mux2.GLOTTAL_STOP)
 # How often a setup of a random session is given each set.
 CHOSEN = {mux2.SET_1974: 6, mux2.DICTIONARY: 2, mux2.EVERY_CODE: 1, mux2.NO_CODE: 1, 'random': 2}
 
+# How often a setup of a random session's second part is given each kind (02, K6).
+CHOSEN_KINDS = {mux2.MIGHTY_MUX: 3, mux2.EDS_8: 1}
+
 # How often each action is chosen, by the kind of session.
 USUAL = dict(turn=60, sweep=14, processor=8, host=4, lend_list=2, poke=2, stopped=2,
              bad_setup=0.4, bad_record=1, bad_memory=1, bad_port=1, bad_sweep=1, reset=0.4)
@@ -72,6 +76,8 @@ class Author:
 
     def __init__(self, seed, number):
         self.random = Random(seed * 1000003 + number).random
+        self.second = Random(seed * 1000003 + number + 1000000007).random     # of the second part
+        self.chooses_kinds = False
         self.kind = list(KINDS)[number % len(KINDS)]
         settings = {**USUAL, **TRAITS, **KINDS[self.kind]}
         self.traits = {name: settings[name] for name in TRAITS}
@@ -126,7 +132,7 @@ class Author:
 
     def unsound(self):
         u = self.unit
-        return self.mux.setup_refusal(u.block, u.ports, u.base) != 0 or u.pos >= u.ports
+        return self.mux.setup_refusal(u.block, u.ports, u.base) != 0 or u.pos >= u.ports or u.fill > mux2.STACK
 
     def look(self, ahead=0):
         """The block of the port `ahead` turns from now, cut to an address that may be looked at."""
@@ -203,6 +209,42 @@ class Author:
         """The set of the next setup, about every second time that of 1974."""
         wanted = self.weighted(CHOSEN)
         self.give_set(self.random_set() if wanted == 'random' else wanted)
+
+    # Kinds of unit and their stacks.
+
+    def give_kind(self, kind):
+        """Setups are from now on given this kind."""
+        if self.driver.kind != kind:
+            self.do(drive.KIND, kind)
+
+    def choose_kind(self):
+        """The kind of the next setup; the first part of a session has EDS-8s alone."""
+        if self.chooses_kinds:
+            self.give_kind(self.weighted(CHOSEN_KINDS))
+
+    def poke_words(self, places):
+        """Any words in these places of the stack."""
+        for place in places:
+            self.do(drive.POKE_STACK, place, self.below(65536))
+
+    def poke_stack(self, what):
+        """A stack that no call would make, but a sound one."""
+        if what == 0:
+            self.do(drive.POKE, 8, self.below(2))
+        elif what == 1:
+            self.do(drive.POKE, 9, self.below(2))
+        elif what == 2:
+            self.do(drive.POKE, 10, self.one_of(0, 1, 2, 38, 39, 40, self.below(41)))
+        else:
+            self.poke_words([self.one_of(0, 1, 39, self.below(40))])
+
+    def poke_depth(self):
+        """A stack that is full or nearly so, or has a few entries."""
+        if self.chance(0.7):
+            depth = self.one_of(1, 5, 35, 38, 39, 40)
+            self.poke_words(range(depth))
+            self.do(drive.POKE, 10, depth)
+            self.do(drive.POKE, 6, 1)
 
     # Preparing a port for its turn.
 
@@ -324,8 +366,10 @@ class Author:
     def poke(self):
         """A record that no call would make, but a sound one."""
         u = self.unit
-        what = self.below(7)
-        if what == 0:
+        what = self.below(11 if self.chooses_kinds else 7)
+        if what > 6:
+            self.poke_stack(what - 7)
+        elif what == 0:
             self.do(drive.POKE, 3, self.below(u.ports))
         elif what == 1:
             self.do(drive.POKE, 7, self.below(65536))
@@ -378,6 +422,8 @@ class Author:
             (2, self.one_of(u.base + 1, u.base + 4 * u.block, 32768, 32768 + u.base, HIGH, MANY)),
             (2, (u.base // area + 1) * area - 8 * u.block), (1, 128),
             (3, self.one_of(u.ports, u.ports + 1, 128, MANY)))
+        if self.chooses_kinds and self.chance(0.3):
+            field, value = 10, self.one_of(41, 42, 256, 65576, MANY)
         good = getattr(u, drive.FIELDS[field])
         self.do(drive.POKE, field, value)
         words = self.one_of(32768, 32768, 32767)
@@ -424,6 +470,7 @@ class Author:
         base = self.one_of(base, base, base, min(base + self.one_of(1, b // 2, 4 * b), MANY),
                            self.one_of(HIGH, MANY))
         self.choose_set()
+        self.choose_kind()
         self.do(drive.SETUP, b, ports, base, self.below(2))
         if self.unsound():
             self.some_calls()
@@ -447,6 +494,7 @@ class Author:
 
     def good_setup(self):
         self.choose_set()
+        self.choose_kind()
         self.do(drive.SETUP, *self.sound_place(self.one_of(8, 16, 32)), self.below(2))
         for p in range(self.unit.ports):
             if self.chance(0.8):
@@ -458,6 +506,18 @@ class Author:
             self.do(drive.FILL, 1 + self.below(2000000000))
         self.good_setup()
         self.do(drive.PLACES, 200, self.below(65536))
+        self.act(calls)
+        self.random, self.chooses_kinds = self.second, True
+        self.actions['poke'] += 4                       # the stack is poked as well
+        self.good_setup()
+        self.poke_depth()
+        self.act(self.calls + KIND_CALLS)
+        reached = self.mux.reached
+        self.do(drive.END)
+        return reached
+
+    def act(self, calls):
+        """Actions until so many calls are made."""
         while self.calls < calls:
             if not self.unit.runs:
                 self.do(drive.DOC)
@@ -465,9 +525,6 @@ class Author:
                 self.plain_turn()
             else:
                 getattr(self, self.weighted(self.actions))()
-        reached = self.mux.reached
-        self.do(drive.END)
-        return reached
 
 
 def write_session(seed, number):
@@ -1063,11 +1120,487 @@ def small_sets_session():
     return author, reached
 
 
+# The sessions of the stack (02, K6).
+
+OF_THE_STACK = ('poked stacks', 'stack', 'both kinds')  # their kinds
+PLACES_OF = {8: (48, 64), 16: (64, 2176), 32: (41, 14848)}      # by the block size: ports, and a base whose address is not 0
+
+# How a stack is filled and drained: interrupts, then STARTs. It is overfilled, the lost mark is kept and cleared, freed places
+# are used again, and some STARTs find no entry.
+STEPS = ((1, 1), (1, 2), (3, 1), (2, 3), (39, 0), (0, 39), (40, 1), (1, 1), (1, 40), (41, 1), (1, 0), (1, 1), (2, 39), (1, 1),
+         (5, 5), (40, 0), (4, 41), (1, 1), (40, 20), (20, 0), (0, 41))
+
+
+def raise_input(author):
+    """The port whose turn it is takes a character, which is done."""
+    p = author.unit.pos
+    author.write(author.block(p), 0)
+    author.do(drive.ARRIVAL, p, 65 + p % 26, 0, 0)
+    author.inspect()
+
+
+def raise_output(author):
+    """The port whose turn it is takes control bits, which is done and leaves its transmitter empty."""
+    author.write(author.block(author.unit.pos) + 1, 0o40060)
+    author.inspect()
+
+
+def no_interrupt(author):
+    """The port whose turn it is finds OUTDONE set."""
+    author.write(author.block(author.unit.pos) + 1, 0o140060)
+    author.inspect()
+
+
+BY = ((raise_input,), (raise_output,), (raise_input, raise_output), (raise_output, raise_output, raise_input))
+STARTS = ((drive.DIA, drive.START), (drive.DIAS,), (drive.START,), (drive.DIAS, drive.DIA, drive.START))
+
+
+def raised(author, count, by):
+    """So many interrupts, by these in turn."""
+    for number in range(count):
+        by[number % len(by)](author)
+
+
+def started(author, count, orders):
+    """So many STARTs, by these orders in turn; those that do none count for nothing."""
+    done = turn = 0
+    while done < count:
+        op = orders[turn % len(orders)]
+        author.do(op)
+        done += op != drive.DIA
+        turn += 1
+
+
+def empty_unit(author, ports, base, b):
+    """A running unit whose stack is empty, with its clock on, for characters of eight bits."""
+    running(author, ports, base, 0o60, b)
+    for op in (drive.RESET, drive.DOC, drive.IOPLS):
+        author.do(op)
+
+
+def filled_and_drained(author, by, starts):
+    """The steps above, with a tick in every second one: before the STARTs, after the first or after all."""
+    for number, (more, fewer) in enumerate(STEPS):
+        raised(author, more, by)
+        author.do(drive.DIA)
+        if number % 6 == 1:
+            author.do(drive.TICK)
+        started(author, min(fewer, 1), starts)
+        if number % 6 == 3:
+            author.do(drive.TICK)
+        started(author, max(fewer - 1, 0), starts)
+        if number % 6 == 5:
+            author.do(drive.TICK)
+        author.do(drive.DIA)
+
+
+def fresh_stack(author):
+    """A fresh unit's calls of the interrupt side: no entry, with the clock off and on, bit 0 off and on."""
+    for op in (drive.DIA, drive.DIAS, drive.START, drive.TICK, drive.DIA, drive.IOPLS, drive.TICK, drive.DIA, drive.START,
+               drive.DIA, drive.TICK, drive.TICK, drive.DIAS, drive.DIAS, drive.TICK, drive.RESET, drive.DIA):
+        author.do(op)
+
+
+def resets(author, by):
+    """Resets of stacks with no entry, one, many, all and lost ones, with bit 0 off and on; then the stack is used again."""
+    for number, depth in enumerate((0, 1, 2, 39, 40, 41, 43, 42, 1)):
+        raised(author, depth, by)
+        if number % 2:
+            author.do(drive.TICK)
+        for op in (drive.DIA, drive.RESET, drive.DIA, drive.START, drive.DOC, drive.IOPLS, drive.TICK):
+            author.do(op)
+        raised(author, 2, by)
+        started(author, 3, (drive.DIAS,))
+
+
+def reset_after_reset(author):
+    """A reset of a full stack whose places are all taken again afterwards: none may have kept its word."""
+    for count in (41, 3, 40):
+        raised(author, count, BY[2])
+        author.do(drive.RESET)
+        author.do(drive.RESET)
+        author.do(drive.DOC)
+    for count in range(1, 4):
+        raised(author, count, BY[3])
+        started(author, count + 1, (drive.DIAS,))
+
+
+def every_end(author):
+    """Everything that makes an input or an output done, on a stack with room and on a full one: names, marked characters, short
+    buffers, a change of the line."""
+    for depth in (0, 40):
+        one_port(author, 64)
+        raised(author, depth, BY[1])
+        names(author)
+        raised(author, depth, BY[0])
+        other_rules(author)
+        raised(author, depth, BY[1])
+        for level in (1, 0):
+            author.write(author.block(0) + 1, 2048 * (1 - level))
+            author.do(drive.DEVICE_STATUS, 0, level)
+            author.inspect()
+            author.do(drive.DIAS)
+        for icw in (RECEIVING[0], RECEIVING[3]):
+            received(author, icw, 2000, 2002, (65, 66, 67))
+        for ocw in SENDING:
+            sent(author, ocw, 2000, 2002, (65, 66, 67))
+
+
+def ready(author, each):
+    """Ports with work for sweeps: every `each`th has an interrupt to raise, by input and by output in turn; of the others some
+    send a byte of a long buffer, and some have OUTDONE set."""
+    for p in range(author.unit.ports):
+        block = author.block(p)
+        if p % each == each - 1:
+            if p // each % 2:
+                author.write(block, 0)
+                author.do(drive.ARRIVAL, p, 97 + p % 26, 0, 0)
+            else:
+                author.write(block + 1, 0o40060)
+        elif p % 2:
+            set_buffer(author, (1, 5, 7), 0o20000, 3000 + p, 9000, p)
+        else:
+            author.write(block + 1, 0o140060)
+
+
+def swept_stack(author, each):
+    """Sweeps over such ports on a stack with room and on a full one: each stops at an interrupt, queued or lost, whose control
+    word is then looked at; some end with it."""
+    ports = author.unit.ports
+    for lengths_of in ((ports,), (each, each + 1, 1), (2 * each, each - 1, ports)):
+        ready(author, each)
+        left, turn = ports, 0
+        while left > 0:
+            to_interrupt = each - 1 - author.unit.pos % each
+            n = min(lengths_of[turn % len(lengths_of)], left)
+            before = author.unit.pos
+            author.do(drive.SWEEP, n, author.look(min(to_interrupt, left - 1)))
+            left -= (author.unit.pos - before) % ports or n
+            turn += 1
+        author.do(drive.DIA)
+        for p in range(ports):
+            if not author.unit.port[p].empty:
+                author.do(drive.TRANSMITTED, p)
+        while author.unit.pos:
+            no_interrupt(author)
+
+
+def some_sweep(author):
+    """A sweep over a few ports, one of which may have an interrupt to raise."""
+    ahead = author.below(4)
+    p = (author.unit.pos + ahead) % author.unit.ports
+    author.write(author.block(p) + 1, author.one_of(0o40060, 0o60101, 0o140060))
+    if author.chance(0.5):
+        author.do(drive.ARRIVAL, p, author.below(256), 0, 0)
+    author.do(drive.SWEEP, author.below(6), author.look(ahead))
+
+
+def every_call(author):
+    """Each call once, accepted, and the refusals that come after 6."""
+    for op in (drive.DIA, drive.TICK, drive.IOPLS, drive.DOB, drive.DOC):
+        author.do(op)
+    author.do(drive.TRANSMITTED, 0)
+    author.do(drive.DEVICE_STATUS, 0, 0)
+    author.do(drive.ARRIVAL, author.unit.ports, 65, 0, 0)
+    author.do(drive.WORDS, 32767)
+    author.inspect()
+    author.do(drive.WORDS, 32768)
+    author.do(drive.SWEEP, 4097, author.look())
+    author.do(drive.SWEEP, 7, author.look())
+    raised(author, 2, BY[2])
+    some_sweep(author)
+
+
+def between_other_calls(author):
+    """Few entries, and all with lost ones, beside every call that leaves them alone, in a stopped unit too."""
+    for depth in (2, 41):
+        raised(author, depth, BY[2])
+        every_call(author)
+        for op in (drive.DOB, drive.DIA, drive.TICK, drive.DIAS, drive.START, drive.DIA, drive.DOC, drive.RESET, drive.DOC):
+            author.do(op)
+
+
+def kinds_between(author):
+    """Setups of both kinds in mid-session, with entries, lost ones and a tick waiting: one that is refused leaves the unit, its
+    kind and its stack, or gives the record of zeros; one that is accepted is fresh and has the new kind."""
+    wrong = ((7, 1, 64), (8, 0, 64), (8, 1, 65), (8, 1, 32768), (8, 121, 64))       # 1, 2, 3, 11 and 4
+    for number, setting in enumerate(wrong):
+        for of_unit in (1, 0):
+            for given in (1, 0):
+                author.give_kind(of_unit)
+                empty_unit(author, *PLACES_OF[8], 8)
+                raised(author, (3, 41)[number // 2 % 2], BY[2])
+                author.do(drive.TICK)
+                author.give_kind(given)
+                author.do(drive.SETUP, *setting, 0)
+                author.do(drive.DIAS)
+                raised(author, 1, BY[0])
+                author.do(drive.TICK)
+                author.do(drive.DIA)
+                if number % 2:                          # every second time the unit is the record of zeros by then
+                    author.do(drive.SETUP, *setting, 1)
+                    author.do(drive.DIA)
+                author.do(drive.SETUP, 8, 8, 64, 1)
+                for op in (drive.DIA, drive.START, drive.DOC, drive.IOPLS):
+                    author.do(op)
+                raised(author, 2, BY[2])
+                started(author, 3, (drive.DIAS,))
+                author.do(drive.SETUP, *setting, 1)
+
+
+def stack_session():
+    """The session of the stack by calls, host writes and order 15 alone."""
+    author = Author(SEED, 0)
+    author.kind = 'stack'
+    author.do(drive.PLACES, 64, 65535)
+    author.do(drive.DIA)                                # of the record of zeros
+    kinds_between(author)
+    author.give_kind(mux2.MIGHTY_MUX)
+    one_port(author, 0)                                 # address 0: entries that tell input or output alone
+    filled_and_drained(author, BY[2], STARTS[1])
+    for number, (b, (ports, base)) in enumerate(PLACES_OF.items()):
+        author.do(drive.SETUP, b, ports, base, 0)
+        fresh_stack(author)
+        for way in range(3):
+            empty_unit(author, ports, base, b)
+            filled_and_drained(author, BY[(number + way) % 4], STARTS[(number + 2 * way) % 4])
+        resets(author, BY[number])
+        reset_after_reset(author)
+        between_other_calls(author)
+        empty_unit(author, ports, base, b)
+        swept_stack(author, 2 + number)
+    running(author, 128, 4096, 0o60, 32)                # the highest address, and more lost than queued
+    started(author, 42, (drive.DIAS,))
+    every_end(author)
+    reached = author.mux.reached
+    author.do(drive.END)
+    return author, reached
+
+
+# How often each event of the session of both kinds is chosen, by what its part is to do.
+EVENTS = {
+    'fill': dict(raise_input=8, raise_output=8, no_interrupt=3, tick=1, dia=1, start=0.5, dias=0.5, some_sweep=2),
+    'drain': dict(raise_input=1, raise_output=1, no_interrupt=1, tick=1, dia=2, start=4, dias=4, some_sweep=0.5),
+    'even': dict(raise_input=3, raise_output=3, no_interrupt=2, tick=1, dia=1, start=2.5, dias=2.5, some_sweep=1, reset=0.1),
+}
+PARTS = ('drain', 'fill', 'even', 'drain', 'fill', 'fill', 'even', 'drain', 'drain')
+
+
+def events(author, seed, parts):
+    """Events from a generator of their own, whatever the kind of the unit."""
+    author.random = Random(seed).random
+    by_name = dict(raise_input=raise_input, raise_output=raise_output, no_interrupt=no_interrupt, some_sweep=some_sweep)
+    for part in parts:
+        for _ in range(40):
+            event = author.weighted(EVENTS[part])
+            if event in by_name:
+                by_name[event](author)
+            elif event == 'reset':
+                for op in (drive.RESET, drive.DOC, drive.IOPLS):
+                    author.do(op)
+            else:
+                author.do(dict(tick=drive.TICK, dia=drive.DIA, start=drive.START, dias=drive.DIAS)[event])
+
+
+def kinds_session():
+    """The session of both kinds: the same events at an EDS-8 and at a Mighty Mux."""
+    author = Author(SEED, 0)
+    author.kind = 'both kinds'
+    author.do(drive.PLACES, 6, 65535)
+    for b, (ports, base) in PLACES_OF.items():
+        for kind in (mux2.EDS_8, mux2.MIGHTY_MUX):
+            author.give_kind(kind)
+            author.do(drive.FILL, b)
+            running(author, ports, base, 0o60, b)
+            author.do(drive.IOPLS)
+            events(author, b, PARTS)
+    reached = author.mux.reached
+    author.do(drive.END)
+    return author, reached
+
+
+# Poked stacks: their words, and what may stand beside them.
+WORDS_OF = [(65535, 49152, 0, 11264, 32768, 16384, 31, 20000)[place % 8] ^ place for place in range(40)]
+STATUS_WORDS = (0, 32768, 32767, 65535, 31776)
+TOO_MANY = (41, 42, 64, 255, 256, 296, 65535, 65536, 65576, 2147483648, 2147483688, MANY - 1, MANY)
+
+
+def poke_all(author, **fields):
+    """Fields of the record by their names."""
+    for name, value in fields.items():
+        author.do(drive.POKE, drive.FIELDS.index(name), value)
+
+
+def poke_entries(author, words=WORDS_OF):
+    """These words in the places of the stack, by pokes where others stand."""
+    for place, word in enumerate(words):
+        if author.unit.stack[place] != word:
+            author.do(drive.POKE_STACK, place, word)
+
+
+def interrupt_side(author, **fields):
+    """Each call of the interrupt side, and an interrupt of each kind, at a record that is poked so before it."""
+    for what in (drive.DIA, drive.START, drive.DIAS, drive.TICK, raise_input, raise_output, drive.RESET):
+        poke_entries(author)
+        poke_all(author, clock=1, **fields)
+        if callable(what):
+            what(author)
+        else:
+            author.do(what)
+        author.do(drive.DIA)
+        if what == drive.RESET:
+            author.do(drive.DOC)
+
+
+def poked_sides(author):
+    """Interrupt sides that no call would make: of either kind, with every flag and lost mark beside every number of entries."""
+    for kind in (mux2.MIGHTY_MUX, mux2.EDS_8):
+        for fill in (0, 1, 2, 39, 40):
+            for number, status in enumerate(STATUS_WORDS):
+                for lost, irq in ((number % 2, 0), (1 - number % 2, 1)) if kind == mux2.EDS_8 else (
+                        (0, 0), (0, 1), (1, 0), (1, 1)):
+                    interrupt_side(author, kind=kind, fill=fill, lost=lost, status=status, irq=irq)
+
+
+def free_words(author):
+    """Fewer entries than words: those past the last entry move down and are written over, and without an entry they stay."""
+    poke_entries(author)
+    poke_all(author, kind=mux2.MIGHTY_MUX, fill=3, lost=0, status=0)
+    started(author, 2, (drive.DIAS,))
+    raised(author, 3, BY[2])
+    started(author, 6, (drive.DIAS,))
+    raised(author, 1, BY[0])
+    started(author, 2, (drive.START, drive.DIA))
+    for fill in (0, 5, 40, 39, 1, 0, 40):
+        poke_all(author, fill=fill)
+        author.do(drive.DIA)
+        raised(author, 1, BY[1])
+        author.do(drive.DIAS)
+    author.do(drive.RESET)
+    author.do(drive.DOC)
+
+
+def marked_without_entries(author):
+    """A lost mark with no entry: it is not shown, an entry that comes shows it, and a START that leaves none clears it."""
+    for op in (drive.DIA, drive.START, drive.DIAS, drive.TICK, drive.RESET):
+        poke_all(author, kind=mux2.MIGHTY_MUX, fill=0, lost=1, status=0, irq=0)
+        for order in (drive.DIA, op, drive.DIA, drive.DOC):
+            author.do(order)
+        raised(author, 2, BY[2])
+        started(author, 3, (drive.DIAS,))
+        raised(author, 1, BY[0])
+        started(author, 1, (drive.DIAS,))
+
+
+def kind_under_way(author):
+    """The kind is poked while entries, a lost mark and a status word stand: each kind keeps what the other has."""
+    for depth in (0, 2, 39, 41):
+        poke_all(author, kind=mux2.MIGHTY_MUX)
+        author.do(drive.RESET)
+        author.do(drive.DOC)
+        author.do(drive.IOPLS)
+        raised(author, depth, BY[2])
+        for kind in (mux2.EDS_8, mux2.MIGHTY_MUX) * 3:
+            poke_all(author, kind=kind)
+            author.do(drive.DIA)
+            raised(author, 2, BY[2])
+            for op in (drive.DIA, drive.TICK, drive.DIAS, drive.DIA, drive.TICK):
+                author.do(op)
+            raised(author, 1, BY[1])
+            author.do(drive.START)
+            raised(author, 1, BY[0])
+        poke_all(author, kind=mux2.EDS_8)
+        author.do(drive.RESET)
+        author.do(drive.DOC)
+        poke_all(author, kind=mux2.MIGHTY_MUX)
+        author.do(drive.DIA)
+
+
+def as_many_as_there_may_be(author):
+    """40 entries of either kind are sound, and more are not: every call is refused with 6, before any other number."""
+    for kind in (mux2.MIGHTY_MUX, mux2.EDS_8):
+        for op in (drive.START, drive.DIAS, drive.RESET):
+            poke_entries(author)
+            poke_all(author, kind=kind, fill=40, lost=int(op != drive.START), status=0, irq=1, clock=1)
+            every_call(author)
+            author.do(op)
+            author.do(drive.DOC)
+        for fill in TOO_MANY:
+            poke_entries(author, WORDS_OF[::-1])
+            poke_all(author, fill=author.one_of(0, 1, 40), clock=1)
+            unsound_record(author, 10, fill)
+            good = author.unit.fill
+            poke_all(author, fill=fill)
+            author.do(drive.WORDS, 32767)
+            author.inspect()
+            author.do(drive.SWEEP, 4097, author.look())
+            author.do(drive.WORDS, 32768)
+            author.do(drive.ARRIVAL, author.unit.ports, 65, 0, 0)
+            author.do(drive.SETUP, 8, 0, 64, 0)
+            poke_all(author, fill=good)
+            author.do(drive.DIAS)
+        poke_all(author, fill=41)                       # a setup looks at no old record
+        author.do(drive.SETUP, 8, *PLACES_OF[8], 0)
+        author.do(drive.DOC)
+        author.do(drive.DIA)
+
+
+def poked_session():
+    """The session of poked stacks."""
+    author = Author(SEED, 0)
+    author.kind = 'poked stacks'
+    author.do(drive.PLACES, 6, 65535)
+    for kind, b in zip((mux2.MIGHTY_MUX, mux2.EDS_8, mux2.MIGHTY_MUX), mux2.BLOCKS):
+        author.give_kind(kind)
+        empty_unit(author, *PLACES_OF[b], b)
+        free_words(author)
+        marked_without_entries(author)
+        kind_under_way(author)
+        if b < 32:
+            as_many_as_there_may_be(author)
+    poked_sides(author)
+    reached = author.mux.reached
+    author.do(drive.END)
+    return author, reached
+
+
+def small_stack_session():
+    """A short session of the stack, for small.py: filled, overfilled, drained, poked and reset, with a sweep at a full stack."""
+    author = Author(SEED, 0)
+    author.kind = 'small stack'
+    author.do(drive.PLACES, 4, 65535)
+    author.give_kind(mux2.MIGHTY_MUX)
+    empty_unit(author, 2, 15360, 32)
+    raised(author, 3, BY[2])
+    author.do(drive.TICK)
+    started(author, 4, (drive.DIAS,))
+    poke_entries(author)
+    poke_all(author, fill=39, irq=1)
+    raised(author, 2, BY[0])
+    author.write(author.block(author.unit.pos) + 1, 0o40060)
+    author.do(drive.SWEEP, 4, author.look())
+    started(author, 3, STARTS[0])
+    poke_all(author, kind=mux2.EDS_8)
+    raised(author, 2, BY[2])
+    started(author, 2, STARTS[3])
+    poke_all(author, kind=mux2.MIGHTY_MUX, lost=0)
+    started(author, 38, (drive.DIAS,))
+    unsound_record(author, 10, 41)
+    author.do(drive.RESET)
+    author.do(drive.SETUP, 7, 1, 64, 1)
+    reached = author.mux.reached
+    author.do(drive.END)
+    return author, reached
+
+
 def fixed_set(seed=SEED, sessions=SESSIONS):
     yield speeds_session()
     yield short_session()
     yield codes_session()
     yield bases_session()
     yield sets_session()
+    yield poked_session()
+    yield stack_session()
+    yield kinds_session()
     for number in range(sessions):
         yield write_session(seed, number)

@@ -2,8 +2,8 @@
 
     small.py FOLDER
 
-A short session of sets of special codes, the first orders of four sessions of the fixed set, each with a whole digest and an
-end, and the session of the speeds; every order is in them.
+A short session of sets of special codes, one of the stack, the first orders of four sessions of the fixed set, each with a
+whole digest and an end, and the session of the speeds; every order is in them.
 """
 
 import pathlib
@@ -18,8 +18,8 @@ NUMBERS, ORDERS = (0, 5, 8, 10), 260
 def parts():
     """The orders of each part."""
     begun = [sessions.write_session(sessions.SEED, number)[0].orders[:ORDERS] for number in NUMBERS]
-    first, last = sessions.small_sets_session()[0].orders, sessions.speeds_session()[0].orders
-    return [first] + [orders + [(drive.DIGEST,), (drive.END,)] for orders in begun] + [last]
+    first = [sessions.small_sets_session()[0].orders, sessions.small_stack_session()[0].orders]
+    return first + [orders + [(drive.DIGEST,), (drive.END,)] for orders in begun] + [sessions.speeds_session()[0].orders]
 
 
 def main():

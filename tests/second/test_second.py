@@ -1,4 +1,4 @@
-"""Checks the second program by document 01's settled examples, K1, K2, K4, K5 and K10 of document 02 and the manual.
+"""Checks the second program by document 01's settled examples, K1, K2, K4, K5, K6 and K10 of document 02 and the manuals.
 
 It also checks that the digests are those of FORMAT.md, that a written session
 can be read and driven again, that compare.py finds a changed line and that
@@ -21,11 +21,11 @@ import small
 from mux2 import IDLE, INPUT, NOTHING, OUTPUT, Answer, Mux2
 
 
-def unit(b=8, ports=8, base=64, control=0o60, codes=None):
-    """A running unit whose ports have length 8, with parity checked, unless told otherwise; with a set of special codes if
-    one is given."""
+def unit(b=8, ports=8, base=64, control=0o60, **given):
+    """A running unit whose ports have length 8, with parity checked, unless told otherwise; with a set of special codes and
+    of a kind if one is given."""
     mux = Mux2()
-    code, mux.record = mux.setup(b, ports, base) if codes is None else mux.setup(b, ports, base, codes)
+    code, mux.record = mux.setup(b, ports, base, **given)
     assert code == 0
     for p in range(ports):
         mux.change(p, control=mux2.BYTE_BITS[control])
@@ -873,11 +873,11 @@ def test_orders_of_sets():
     poked[0o101], poked[0] = 1, 0
     assert driver.mux.record.codes == tuple(poked)
     setups = drive_all((drive.SETUP, 8, 0, 64, 0), setup)
-    assert setups[0].split()[2] == str(drive.digest([0] * 1288)) and driver.codes == tuple(DICTIONARY)
+    assert setups[0].split()[2] == str(drive.digest([0] * 1331)) and driver.codes == tuple(DICTIONARY)
     one, other = drive_all(dia, (drive.POKE_CODE, 127, 0), dia)
-    numbers = [8, 1, 64, 0, 0, 0, 0, 0, *DICTIONARY] + [0, 0, 0, 0, 0, 1, 0, 1, 0] * 128
+    numbers = [8, 1, 64] + [0] * 8 + [0] * 40 + DICTIONARY + [0, 0, 0, 0, 0, 1, 0, 1, 0] * 128
     assert one == f'{drive.DIA} 0 0 {drive.digest(numbers)}' and setups[1].split()[2] == one.split()[3]
-    numbers[8 + 127] = 0
+    numbers[11 + 40 + 127] = 0
     assert other == f'{drive.DIA} 0 0 {drive.digest(numbers)}'
     drive_all((drive.END,))
     assert driver.codes == tuple(SET_1974) and driver.mux.record.codes == (0,) * 128
@@ -909,8 +909,8 @@ def services_under_sets(author):
 def test_session_of_the_sets():
     author, reached = session_of_the_sets()
     assert author.calls <= 40000 and 2 * author.serving > author.calls
-    new = mux2.BRANCHES[mux2.BRANCHES.index('setup accepted with the 1974 set'):]
-    assert [branch for branch in new if not reached[branch]] == [f'speed {code:03b}' for code in range(8)]
+    first, last = map(mux2.BRANCHES.index, ('setup accepted with the 1974 set', 'speed 000'))
+    assert all(reached[branch] for branch in mux2.BRANCHES[first:last])
     met = services_under_sets(author)
     main = [SET_1974, DICTIONARY, [0] * 128, [1] * 128, *map(set_of, OPTIONS.values())]
     for codes in main:
@@ -933,6 +933,577 @@ def test_random_sessions_choose_sets():
         pokes += sum(order[0] == drive.POKE_CODE for order in author.orders)
     assert min(counts.values()) > 4 and pokes > 10
     assert 0.35 < counts['the 1974 set'] / sum(counts.values()) < 0.65
+
+
+# Document 02, K6.
+
+EDS_8, MIGHTY_MUX = 0, 1
+KINDS_OF_UNIT = (EDS_8, MIGHTY_MUX)
+PLACES = ((8, 48, 64), (16, 64, 2176), (32, 41, 14848), (32, 128, 4096), (8, 8, 0))     # settings of units with stacks
+
+
+def mighty(b=32, ports=32, base=15360, **fields):
+    """A running Mighty Mux, with these fields of its record."""
+    mux = unit(b, ports, base, kind=MIGHTY_MUX)
+    vars(mux.record).update(fields)
+    return mux
+
+
+def side(mux):
+    """The interrupt side: flag, status word, lost mark, number of entries, and the entries with the free places."""
+    r = mux.record
+    return r.irq, r.status, r.lost, r.fill, r.stack
+
+
+def places(*words):
+    """A stack with these words in its first places."""
+    return words + (0,) * (40 - len(words))
+
+
+def input_done(mux):
+    """The port whose turn it is takes a character and raises an interrupt; its ICW is written."""
+    p = mux.record.pos
+    mux.host_write(mux.block_of(p), 0)
+    assert mux.arrival(p, 0o101, 0, 0) == 0
+    assert mux.inspect() == (0, Answer(INPUT, p, 0, 0, 1)) and mux.memory.word(mux.block_of(p)) == 0o100101
+
+
+def output_done(mux):
+    """The port whose turn it is takes control bits and raises an interrupt; its OCW is written."""
+    p = mux.record.pos
+    mux.host_write(mux.block_of(p) + 1, 0o40060)
+    assert mux.inspect() == (0, Answer(OUTPUT, p, 0, 0, 1)) and mux.memory.word(mux.block_of(p) + 1) == 0o140060
+
+
+def entry_of(mux, done):
+    """The entry of such an interrupt by its bits' weights (000, Table 2-3): 8192 or 4096, and 32 times the address."""
+    address = (mux.record.base // mux.record.block + mux.record.pos) % 128
+    return (8192 if done == input_done else 4096) + 32 * address
+
+
+def words(count, seed=40):
+    random = Random(seed).random
+    return tuple(int(random() * 65536) for _ in range(count))
+
+
+def poked_records(kinds=KINDS_OF_UNIT):
+    """Interrupt sides that the calls would make and others, with words in every place."""
+    for kind in kinds:
+        for fill in (0, 1, 2, 39, 40):
+            for status in (0, 32768, 32767, 65535):
+                for lost in (0, 1):
+                    for irq in (0, 1):
+                        for stack in (words(40), places(*words(fill, 1)), (65535,) * 40, places()):
+                            yield dict(kind=kind, fill=fill, status=status, lost=lost, irq=irq, stack=stack)
+
+
+def test_fresh_units_of_both_kinds():
+    assert Mux2().setup(8, 1, 64)[1].kind == EDS_8
+    for kind in KINDS_OF_UNIT:
+        for codes in (SET_1974, DICTIONARY):
+            mux = Mux2()
+            mux.record = mighty(fill=3, lost=1, irq=1, status=32768, stack=words(40)).record
+            code, made = mux.setup(8, 8, 64, codes, kind)
+            assert code == 0 and made.kind == kind and made.codes == tuple(codes)
+            assert (made.irq, made.status, made.lost, made.fill, made.stack) == (0, 0, 0, 0, (0,) * 40)
+            assert made.runs == made.clock == made.pos == 0 and made.port == [mux2.FRESH_PORT] * 128
+            assert side(mux) == (1, 32768, 1, 3, words(40))         # setup touches no old record
+            mux.record = made
+            assert mux.dia() == (0, 0) and mux.dias() == (0, 0) and mux.start() == 0 and side(mux) == (0, 0, 0, 0, (0,) * 40)
+
+
+def test_kind_changes_no_refusal():
+    mux, seen = Mux2(), set()
+    for setting in settings():
+        code, record = mux.setup(*setting, SET_1974, EDS_8)
+        other, made = mux.setup(*setting, SET_1974, MIGHTY_MUX)
+        assert code == other and {**vars(made), 'kind': EDS_8} == vars(record)
+        assert made.kind == (MIGHTY_MUX if code == 0 else EDS_8)
+        if code:
+            assert vars(made) == vars(mux2.Record())
+        seen.add(code)
+    assert seen == {0, 1, 2, 3, 4, 11}
+
+
+def test_stacked_status_words():
+    mux = mighty()                                      # base 15360, b 32: port 0 has address 96
+    input_done(mux)
+    assert side(mux) == (1, 0, 0, 1, places(11264)) and mux.dia() == (0, 11264)
+    mux.host_write(15360 + 32 + 1, 0o60101)
+    assert mux.inspect() == (0, Answer(OUTPUT, 1, 1, 0o101, 1))
+    assert side(mux) == (1, 0, 0, 2, places(11264, 7200))           # 4096 + 97 * 32, and no bit 1
+    mux.iopls()
+    mux.tick()
+    assert side(mux) == (1, 32768, 0, 2, places(11264, 7200))
+    assert mux.dia() == (0, 32768 + 11264) and mux.dias() == (0, 32768 + 11264)
+    assert side(mux) == (1, 0, 0, 1, places(7200)) and mux.dias() == (0, 7200)
+    assert side(mux) == (0, 0, 0, 0, places()) and mux.dia() == mux.dias() == (0, 0)
+    mux.tick()
+    assert mux.dia() == (0, 32768) and side(mux) == (1, 32768, 0, 0, places())
+    assert mux.start() == 0 and side(mux) == (0, 0, 0, 0, places())
+
+
+def test_entries_have_the_address():
+    for b, base, first in ((8, 0, 0), (8, 64, 8), (8, 32704, 120), (16, 128, 8), (16, 2176, 8), (16, 32640, 120), (32, 256, 8),
+                           (32, 14848, 80), (32, 15360, 96), (32, 32512, 120), (8, 1024, 0)):
+        mux = mighty(b, 8, base)
+        for p in range(8):
+            input_done(mux)
+        for p in range(8):
+            output_done(mux)
+        assert mux.record.stack == places(*[kind + (first + p) * 32 for kind in (8192, 4096) for p in range(8)])
+
+
+def test_every_end_of_a_service_is_queued():
+    for codes, character in ((SET_1974, 0o15), (DICTIONARY, 0o101)):
+        mux = unit(ports=1, codes=codes, kind=MIGHTY_MUX)
+        set_buffer(mux, INPUT, 2000, 2001, bits=0o30000)            # a special code, or the end of the buffer
+        assert give(mux, 0, character).raised == 1 and mux.dias() == (0, 8192 + 256)
+        set_buffer(mux, OUTPUT, 2000, 2001)
+        mux.transmitted(0)
+        assert mux.inspect()[1].raised == 1 and mux.dias() == (0, 4096 + 256)
+        mux.transmitted(0)
+        block(mux, ocw=0)
+        mux.device_status(0, 1)                         # bit 7 becomes 1
+        assert mux.inspect()[1].raised == 1 and side(mux) == (1, 0, 0, 1, places(4096 + 256))
+        for icw, ocw in ((0o20000, 0), (0o100000, 0o100000), (0o120000, 0o140000)):     # not done, or done before
+            block(mux, icw=icw, ocw=ocw + 2048)
+            assert give(mux, 0, 0o101).raised == 0 and mux.inspect()[1].raised == 0
+            assert side(mux) == (1, 0, 0, 1, places(4096 + 256))
+
+
+def test_first_in_first_out():
+    for b, ports, base in PLACES:
+        for done in ((input_done,), (output_done,), (input_done, output_done, output_done)):
+            mux = mighty(b, ports, base)
+            accepted = []
+            for number in range(40):
+                accepted.append(entry_of(mux, done[number % len(done)]))
+                done[number % len(done)](mux)
+                assert side(mux) == (1, 0, 0, number + 1, places(*accepted)) and mux.dia() == (0, accepted[0])
+            for number in range(1, 41):
+                assert mux.dias() == (0, accepted[number - 1]) if number % 2 else mux.start() == 0
+                assert side(mux) == (int(number < 40), 0, 0, 40 - number, places(*accepted[number:]))
+            assert mux.dias() == (0, 0) and side(mux) == (0, 0, 0, 0, places())
+
+
+def test_an_interrupt_that_finds_40():
+    for done in (input_done, output_done):
+        mux = mighty(8, 48, 64)
+        for _ in range(40):
+            input_done(mux)
+        full = mux.record.stack
+        assert side(mux) == (1, 0, 0, 40, full) and mux.dia() == (0, full[0])
+        for _ in range(3):
+            done(mux)                                   # the answer says raised, the control word is written
+            assert side(mux) == (1, 0, 1, 40, full) and mux.dia() == (0, 16384 + full[0])
+        assert mux.dias() == (0, 16384 + full[0]) and side(mux) == (1, 0, 1, 39, full[1:] + (0,))
+        entry = entry_of(mux, done)
+        done(mux)                                       # the freed place
+        assert side(mux) == (1, 0, 1, 40, full[1:] + (entry,))
+        done(mux)
+        for left in range(39, 0, -1):                   # the mark stays while entries remain
+            assert mux.dias()[1] >= 16384 and mux.record.lost == 1 and mux.record.fill == left and mux.record.irq == 1
+        assert mux.record.stack == places(entry)
+        assert mux.dias() == (0, 16384 + entry) and side(mux) == (0, 0, 0, 0, places())
+        entry = entry_of(mux, done)
+        done(mux)
+        assert side(mux) == (1, 0, 0, 1, places(entry)) and mux.dia() == (0, entry)
+
+
+def test_a_lost_interrupt_leaves_all_else():
+    stack = words(40)
+    for status in (0, 32768, 65535):
+        for irq in (0, 1):
+            for lost in (0, 1):
+                mux = mighty(fill=40, stack=stack, status=status, irq=irq, lost=lost)
+                input_done(mux)
+                assert side(mux) == (1, status, 1, 40, stack)
+
+
+def test_an_interrupt_leaves_the_status_word():
+    for fields in poked_records([MIGHTY_MUX]):
+        for done in (input_done, output_done):
+            mux = mighty(**fields)
+            mux.record.pos = 5
+            entry, fill, stack = entry_of(mux, done), fields['fill'], list(fields['stack'])
+            done(mux)
+            if fill < 40:
+                stack[fill] = entry
+                assert side(mux) == (1, fields['status'], fields['lost'], fill + 1, tuple(stack))
+            else:
+                assert side(mux) == (1, fields['status'], 1, 40, tuple(stack))
+
+
+def test_what_dia_shows():
+    for fields in poked_records([MIGHTY_MUX]):
+        shown = format(fields['status'], '016b')[0]     # indexed by the manual's bit numbers
+        if fields['fill']:
+            shown += str(fields['lost']) + format(fields['stack'][0], '016b')[2:]
+        else:
+            shown += '0' * 15
+        mux = mighty(**fields)
+        before = {**vars(mux.record), 'port': list(mux.record.port)}
+        assert mux.dia() == (0, int(shown, 2)) and vars(mux.record) == before
+        assert mux.dias() == (0, int(shown, 2))
+
+
+def test_what_start_does():
+    for fields in poked_records([MIGHTY_MUX]):
+        fill, stack = fields['fill'], fields['stack']
+        for call in ('start', 'dias'):
+            mux = mighty(**fields)
+            before = {**vars(mux.record), 'port': list(mux.record.port)}
+            getattr(mux, call)()
+            left = max(fill - 1, 0)
+            assert side(mux) == (int(left > 0), 0, fields['lost'] if left else 0, left, stack[1:] + (0,) if fill else stack)
+            changed = dict(irq=0, status=0, lost=0, fill=0, stack=0)
+            assert {**vars(mux.record), **changed} == {**before, **changed}
+
+
+def test_tick_beside_the_stack():
+    for fields in poked_records():
+        mux = mighty(clock=1, **fields)
+        assert mux.tick() == 0
+        assert side(mux) == (1, fields['status'] % 32768 + 32768, fields['lost'], fields['fill'], fields['stack'])
+        mux = mighty(clock=0, **fields)
+        assert mux.tick() == 0
+        assert side(mux) == tuple(fields[name] for name in ('irq', 'status', 'lost', 'fill', 'stack'))
+
+
+def test_reset_empties_the_stack():
+    for fields in poked_records():
+        mux = mighty(clock=1, **fields)
+        assert mux.reset() == 0 and side(mux) == (0, 0, 0, 0, (0,) * 40) and mux.record.kind == fields['kind']
+        assert mux.record.clock == mux.record.runs == 0
+    mux = mighty()
+    for _ in range(41):
+        output_done(mux)
+    mux.reset()
+    mux.doc()
+    entry = entry_of(mux, input_done)
+    input_done(mux)
+    assert side(mux) == (1, 0, 0, 1, places(entry)) and mux.dias() == (0, entry) and mux.dia() == (0, 0)
+
+
+def test_an_eds_8_leaves_the_stack():
+    for fields in poked_records([EDS_8]):
+        mux, plain = mighty(clock=1, **fields), mighty(clock=1, **fields)
+        plain.record.lost, plain.record.fill, plain.record.stack = 0, 0, places()
+        for call in (Mux2.dia, Mux2.tick, input_done, Mux2.dia, output_done, Mux2.dias, Mux2.dia, Mux2.tick, output_done,
+                     Mux2.start, Mux2.dia, input_done):
+            assert call(mux) == call(plain) and side(mux)[:2] == side(plain)[:2]
+            assert side(mux)[2:] == (fields['lost'], fields['fill'], fields['stack'])
+        assert side(plain)[2:] == (0, 0, places())
+    mux = mighty(kind=EDS_8, fill=2, stack=places(5, 6))            # document 01's status words
+    input_done(mux)
+    assert mux.dia() == (0, 11264)
+    output_done(mux)
+    assert mux.dias() == (0, 31776) and side(mux) == (0, 0, 0, 2, places(5, 6))
+
+
+def test_too_many_entries_are_unsound():
+    for kind in KINDS_OF_UNIT:
+        for fill in (41, 42, 255, 256, 296, 65536, 65576, 2147483648, 4294967295):
+            mux = mighty(kind=kind, fill=fill, status=5, irq=1, stack=words(40))
+            before = {**vars(mux.record), 'port': list(mux.record.port)}
+            assert mux.arrival(0, 65, 0, 0) == mux.transmitted(99) == mux.device_status(0, 1) == 6
+            assert mux.reset() == mux.iopls() == mux.start() == mux.doc() == mux.dob() == mux.tick() == 6
+            assert mux.dia() == mux.dias() == (6, 0) and mux.sweep(0) == mux.sweep(4097) == (6, 0, 0)
+            mux.memory.lent = 5
+            assert mux.inspect() == (6, Answer(NOTHING, 0, 0, 0, 0)) and vars(mux.record) == before
+            assert mux.setup(8, 8, 64)[0] == 0          # it looks at no old record
+
+
+def test_no_other_stack_is_unsound():
+    for fields in poked_records():
+        mux = mighty(**fields)
+        mux.lent_places = 1
+        assert mux.arrival(0, 65, 0, 0) == mux.transmitted(0) == mux.device_status(0, 1) == 0
+        assert mux.iopls() == mux.doc() == mux.dob() == mux.tick() == mux.start() == mux.reset() == 0
+        assert mux.dia()[0] == mux.dias()[0] == mux.inspect()[0] == mux.sweep(1)[0] == 0
+
+
+def test_sweeps_and_lost_interrupts():
+    for fill, lost in ((39, 0), (40, 1)):
+        mux = mighty(8, 6, 64, fill=fill, stack=places(*words(fill)), irq=1)
+        mux.places, mux.lent_places = [9] * 10, 10
+        for p, ocw in enumerate((0o20000, 0, 0o60102, 0o60103, 0o40060, 0)):
+            mux.host_write(mux.block_of(p) + 1, ocw)
+        mux.host_write(0, 0o101)                        # port 0's OBP is 0: the right half is next
+        mux.host_write(mux.block_of(0) + 7, 9)          # LOB: more bytes are to come
+        assert mux.sweep(10) == (0, 3, 2) and mux.places == [0o101, 2 * 256 + 0o102] + [9] * 8
+        assert mux.record.pos == 3 and mux.memory.word(mux.block_of(2) + 1) == 0o160102
+        assert side(mux)[2:4] == (lost, 40) and mux.memory.word(mux.block_of(3) + 1) == 0o60103
+        assert mux.sweep(1) == (0, 1, 1) and mux.memory.word(mux.block_of(3) + 1) == 0o160103
+        assert side(mux)[2:4] == (1, 40) and mux.sweep(0) == (0, 0, 0)
+        mux.arrival(5, 65, 0, 0)
+        assert mux.sweep(10) == (0, 1, 0) and mux.sweep(10) == (0, 1, 0) and mux.memory.word(mux.block_of(5)) == 0o100101
+        assert side(mux)[:4] == (1, 0, 1, 40) and mux.record.stack[:fill] == words(fill)
+    mux = mighty(8, 2, 64)
+    mux.lent_places = 2
+    for number in range(1, 43):                         # each sweep stops at one, queued or lost
+        for p in range(2):
+            mux.host_write(mux.block_of(p) + 1, 0o40060)
+        assert mux.sweep(2) == (0, 1, 0) and side(mux)[2:4] == (int(number > 40), min(number, 40))
+
+
+class Expected:
+    """What 02's words say of the interrupt side of a Mighty Mux, for runs since setup or reset."""
+
+    def __init__(self):
+        self.accepted, self.removed = [], 0
+        self.lost = self.tick = self.flag = 0
+
+    def waiting(self):
+        return self.accepted[self.removed:]
+
+    def interrupt(self, entry):
+        self.flag = 1
+        if len(self.waiting()) == 40:
+            self.lost = 1
+        else:
+            self.accepted.append(entry)
+
+    def word(self):
+        return 32768 * self.tick + (16384 * self.lost + self.waiting()[0] if self.waiting() else 0)
+
+    def start(self):
+        self.removed += 1 if self.waiting() else 0
+        self.tick, self.flag = 0, int(len(self.waiting()) > 0)
+        self.lost = self.lost if self.waiting() else 0
+
+    def side(self):
+        return self.flag, 32768 * self.tick, self.lost, len(self.waiting()), places(*self.waiting())
+
+
+def test_removed_and_stacked_are_those_accepted():
+    met = dict.fromkeys(('lost', 'empty', 'again', 'reset'), 0)
+    for seed, (b, ports, base) in enumerate(PLACES):
+        random = Random(seed).random
+        mux, expected, removed = mighty(b, ports, base), Expected(), []
+        mux.iopls()
+        for step in range(2500):
+            at = random() * (6 if step % 500 < 200 else 12)
+            if at < 4:
+                done = input_done if at < 2 else output_done
+                met['again'] += 0 < expected.removed and len(expected.waiting()) == 39
+                met['lost'] += len(expected.waiting()) == 40
+                expected.interrupt(entry_of(mux, done))
+                done(mux)
+            elif at < 4.5:
+                mux.tick()
+                expected.tick = expected.flag = 1
+            elif at < 4.51:
+                mux.reset()
+                mux.doc()
+                mux.iopls()
+                expected, removed = Expected(), []
+                met['reset'] += 1
+            elif at < 5:
+                assert mux.dia() == (0, expected.word())
+            else:
+                met['empty'] += not expected.waiting()
+                if mux.record.fill:
+                    removed.append(mux.record.stack[0])
+                if at < 6:
+                    assert mux.dias() == (0, expected.word())
+                else:
+                    assert mux.start() == 0
+                expected.start()
+            assert side(mux) == expected.side()
+            assert removed + list(mux.record.stack[:mux.record.fill]) == expected.accepted
+    assert min(met.values()) > 5, met
+
+
+def test_a_kind_is_kept():
+    for kind in KINDS_OF_UNIT:
+        mux = unit(ports=1, kind=kind)
+        mux.lent_places = 10
+        for name, call in calls_of_every_kind(mux):
+            call()
+            assert mux.record.kind == kind, name
+        mux.setup(8, 1, 64, SET_1974, 1 - kind)
+        mux.setup(8, 0, 64, SET_1974, 1 - kind)
+        assert mux.record.kind == kind
+
+
+def test_other_calls_leave_the_stack():
+    for fields in poked_records():
+        if fields['fill'] in (2, 40) and fields['status'] == 65535:
+            mux = mighty(8, 2, 64, **fields)
+            for call in (lambda: mux.arrival(0, 65, 1, 1), lambda: mux.arrival(0, 66, 0, 0), lambda: mux.transmitted(0),
+                         lambda: mux.device_status(0, 1), mux.iopls, mux.dob, mux.inspect, lambda: mux.sweep(0), mux.doc,
+                         lambda: mux.sweep(0), lambda: mux.arrival(2, 65, 0, 0), lambda: mux.sweep(9), lambda: mux.speed(5)):
+                call()
+                assert side(mux) == tuple(fields[name] for name in ('irq', 'status', 'lost', 'fill', 'stack'))
+                assert mux.record.kind == fields['kind']
+
+
+def seen_of_both_kinds(lines):
+    """What a session prints but the record's digests and the words of DIA and DIAS."""
+    hidden = {drive.SETUP: (2, 3), drive.DIA: (2, 3), drive.DIAS: (2, 3), drive.INSPECT: (7,), drive.SWEEP: (4,)}
+    for line in lines:
+        numbers = line.split()
+        op = int(numbers[0])
+        left_out = hidden.get(op, (2,) if op in drive.CALLS else ())
+        yield [number for place, number in enumerate(numbers) if place not in left_out]
+
+
+def test_all_else_is_the_same_for_both_kinds():
+    for number in range(len(sessions.KINDS)):
+        orders = [order for order in sessions.write_session(6, number)[0].orders
+                  if order[0] != drive.KIND and order[:2] != (drive.POKE, 8)]
+        both = [[line for line in lines_of(Mux2, [(drive.KIND, kind), *orders]) if line is not None] for kind in KINDS_OF_UNIT]
+        assert both[0] != both[1] and len(both[0]) == len(both[1]) > 500
+        assert list(seen_of_both_kinds(both[0])) == list(seen_of_both_kinds(both[1]))
+
+
+def test_orders_of_kinds():
+    driver = drive.Driver()
+
+    def drive_all(*orders):
+        return [line for line in map(driver.drive, orders) if line is not None]
+
+    setup, dia = (drive.SETUP, 8, 1, 64, 0), (drive.DIA,)
+    assert driver.kind == driver.mux.record.kind == EDS_8 and drive.KIND == 15 and drive.POKE_STACK == 16
+    assert not drive_all((drive.KIND, 1)) and driver.mux.record.kind == EDS_8
+    setups = drive_all(setup, (drive.SETUP, 8, 0, 64, 0), (drive.SETUP, 8, 0, 64, 1))
+    fresh = [8, 1, 64, 0, 0, 0, 0, 0, 1, 0, 0] + [0] * 40 + SET_1974 + [0, 0, 0, 0, 0, 1, 0, 1, 0] * 128
+    zeros = drive.digest([0] * 1331)
+    assert len(fresh) == 1331 and setups[0] == f'1 0 {drive.digest(fresh)} {drive.digest(fresh)}'
+    assert setups[1:] == [f'1 2 {zeros} {drive.digest(fresh)}', f'1 2 {zeros} {zeros}'] and driver.kind == MIGHTY_MUX
+    drive_all(setup)
+    for field, name, value in ((7, 'status', 65535), (8, 'kind', 0), (8, 'kind', 1), (9, 'lost', 1), (10, 'fill', 4294967295),
+                               (10, 'fill', 40)):
+        assert not drive_all((drive.POKE, field, value)) and getattr(driver.mux.record, name) == value
+        fresh[field] = value
+        assert drive_all(dia)[0].split()[3] == str(drive.digest(fresh))
+    for place in (0, 39, 7):
+        assert not drive_all((drive.POKE_STACK, place, 60000 + place))
+        fresh[11 + place] = 60000 + place
+        assert driver.mux.record.fill == 40 and driver.mux.record.stack == tuple(fresh[11:51])
+    assert drive_all(dia) == [f'10 0 {32768 + 16384 + 60000 % 16384} {drive.digest(fresh)}']
+    drive_all((drive.END,))
+    assert driver.kind == driver.mux.record.kind == EDS_8 and driver.mux.record.stack == (0,) * 40
+
+
+def test_sessions_of_the_stack():
+    written = [sessions.poked_session(), sessions.stack_session(), sessions.kinds_session()]
+    assert [author.kind for author, _ in written] == list(sessions.OF_THE_STACK)
+    assert sum(author.calls for author, _ in written) < 25000
+    assert [branch for branch in mux2.STACK_BRANCHES if not any(reached[branch] for _, reached in written)] == []
+    by_calls = written[1][1]                            # the session of the stack has no pokes
+    for kind in mux2.KIND_NAMES:
+        assert by_calls[f'setup accepted as {kind}'] and by_calls[f'setup refused as {kind}']
+    for branch in ('stack: input lost, the first', 'stack: output lost, a further one', 'stack: last place used again',
+                   'sweep: stops at a lost interrupt', 'sweep: ends with a lost interrupt',
+                   'reset, Mighty Mux: lost mark cleared', 'start removes: entries remain, lost mark kept',
+                   'dias removes: the last, lost mark cleared',
+                   'start on a Mighty Mux: bit 0 cleared, entries remain', 'dia: an entry, lost mark, bit 0 on',
+                   'tick with the clock on, Mighty Mux, entries', 'dias: no entry, no lost mark, bit 0 on'):
+        assert by_calls[branch], branch
+
+
+def test_both_kinds_meet_the_same():
+    orders = sessions.kinds_session()[0].orders
+    at = [number for number, order in enumerate(orders) if order[0] == drive.FILL]
+    runs = [[order for order in orders[first:last] if order[0] not in (drive.KIND, drive.DIGEST, drive.END)]
+            for first, last in zip(at, [*at[1:], len(orders)])]
+    assert len(runs) == 6 and all(len(run) > 500 for run in runs)
+    assert runs[::2] == runs[1::2] and orders.count((drive.KIND, 1)) == 3 and orders.count((drive.KIND, 0)) == 2
+
+
+def test_random_sessions_choose_kinds():
+    counts, pokes, places_poked = dict.fromkeys(KINDS_OF_UNIT, 0), dict.fromkeys((8, 9, 10), 0), 0
+    for number in range(2 * len(sessions.KINDS)):
+        author, reached = sessions.write_session(sessions.SEED, number)
+        for kind in KINDS_OF_UNIT:
+            counts[kind] += reached[f'setup accepted as {mux2.KIND_NAMES[kind]}']
+        for order in author.orders:
+            places_poked += order[0] == drive.POKE_STACK
+            if order[0] == drive.POKE and order[1] in pokes:
+                pokes[order[1]] += 1
+        kinds = [order for order in author.orders if order[0] in (drive.KIND, drive.POKE_STACK)]
+        first = author.orders.index(kinds[0]) if kinds else 500
+        assert first > 300                              # the first part has EDS-8s alone, and nothing of a stack
+    assert counts[MIGHTY_MUX] > 15 and counts[EDS_8] > 24 and min(pokes.values()) > 2 and places_poked > 100
+
+
+def test_wrong_stacks_fail():
+    found = {name: texts for name, *texts in mutants.STACK_MUTANTS}
+
+    def named(start, *without):
+        return [name for name in found if name.startswith(start) and not any(part in name for part in without)]
+
+    starts = [f'START {name}' for name in mutants.WRONG_STARTS if name != 'makes an EDS-8']
+    for check, names in (
+            (test_fresh_units_of_both_kinds, [
+                name for name in named('setup gives') if 'in blocks' not in name and 'one port' not in name]),
+            (test_kind_changes_no_refusal, (
+                'refused setup keeps the kind', 'refused setup gives a Mighty Mux', 'setup gives an EDS-8',
+                'setup gives a Mighty Mux', 'setup gives an EDS-8 in blocks of 32', 'setup gives an EDS-8 of one port',
+                'setup of a Mighty Mux refused',
+                "a Mighty Mux's base stricter", 'setup of a Mighty Mux asks no row 3')),
+            (test_stacked_status_words, (
+                'last in, first out', 'inputs have the port number', 'outputs have no bit 2 or 3', 'DIA clears bit 0',
+                'DIAS does START before reading', 'DIAS does no START', 'START keeps bit 0', 'tick pushes an entry',
+                'START leaves the flag without an entry', 'DIAS turns the flag off while entries remain',
+                'outputs have bit 1 where another is stacked', 'Mighty Mux has the merged status word')),
+            (test_entries_have_the_address, [name for name in named('inputs have') + named('outputs have') if not re.search(
+                'tick stands|one is lost', name)]),
+            (test_first_in_first_out, (
+                'last in, first out', 'inputs are put before the others', 'outputs are put over the newest', 'START removes none',
+                'START removes two', 'DIAS empties the stack', 'START only counts', 'START leaves the flag on after the last',
+                'inputs find 39 places', 'outputs find 20 places', 'stack of 39 places', 'outputs set status bit 1 beside others',
+                'DIA shows the newest', 'DIA removes the oldest', 'outputs that take the last place are marked as lost')),
+            (test_an_interrupt_that_finds_40, (
+                *named('inputs that find 40', 'leave the flag'), *named('outputs that find 40', 'leave the flag'),
+                'inputs find 41 places', 'DIAS always clears the lost mark', 'DIAS never clears the lost mark',
+                'DIA never shows bit 1',
+                'DIAS, reading, never shows bit 1', 'lost input not raised in the answer', 'lost output not raised in the answer',
+                "lost input's ICW not written", "lost output's OCW not written", "lost input's ICW written without INDONE",
+                "lost output's OCW written without OUTDONE", 'service waits while the stack is full',
+                'DIAS leaves the last place', 'inputs find no place while the mark is set',
+                'outputs find no freed place until the stack is empty', 'DIAS empties a stack that lost one',
+                'DIAS clears the lost mark when a place is free')),
+            (test_a_lost_interrupt_leaves_all_else, (
+                'inputs that find 40 leave the flag', 'inputs that find 40 set status bit 1', 'inputs clear bit 0',
+                'inputs that find 40 turn the mark round')),
+            (test_an_interrupt_leaves_the_status_word, (
+                'inputs change the status word as well', 'outputs clear the status word', 'outputs clear status bits 1 to 15',
+                'inputs leave the flag beside others', 'outputs clear the places behind', 'inputs clear the mark',
+                'inputs are merged with the word that is there', 'Mighty Mux interrupt as both')),
+            (test_what_dia_shows, named('DIA shows') + named('DIA never') + named('DIA clears') + [
+                'DIA sets the flag beside entries', 'DIAS, reading, shows the newest',
+                'DIAS, reading, shows bit 1 of the entry']),
+            (test_what_start_does, starts),
+            (test_tick_beside_the_stack, [name for name in named('tick ') if not re.search(
+                'makes|words|drops|lost mark$|removes|accepted', name)]),
+            (test_reset_empties_the_stack, named('reset ', 'accepted')),
+            (test_an_eds_8_leaves_the_stack, named('EDS-8 ')),
+            (test_too_many_entries_are_unsound, (
+                '41 entries sound', '42 entries sound', 'any number of entries sound', 'all entries sound',
+                'too many entries mended by a refused call', *named('too many entries unsound in'),
+                *named('number of entries'), *named('too many entries asked'),
+                'setup asks the old record', *[name for name in found if name.endswith('accepted with too many entries')])),
+            (test_no_other_stack_is_unsound, [name for name in found if re.search(' unsound', name) and 'too many' not in name]),
+            (test_sweeps_and_lost_interrupts, [
+                name for name in named('sweep ') if re.search('goes on|makes none|counts|stops where', name)]),
+            (test_removed_and_stacked_are_those_accepted, (
+                'last in, first out', 'START removes two', 'DIAS removes none beside bit 0',
+                'inputs like one that waits are not queued', 'START clears the lost mark when 38 entries remain',
+                'reset keeps one entry', 'reset keeps the words',
+                'outputs find no freed place until the stack is empty', 'START keeps bit 0 without an entry')),
+            (test_a_kind_is_kept, ('reset loses the kind', 'refused setup changes the kind of the unit', 'DOC makes a Mighty Mux',
+                                   'arrival makes an EDS-8', 'inputs make an EDS-8', 'START makes an EDS-8')),
+            (test_other_calls_leave_the_stack, [
+                f'{call} {loses}' for call in ('arrival', 'transmitter empty', 'Device Status', 'IOPLS', 'DOC', 'DOB', 'sweep')
+                for loses in ('makes an EDS-8', 'drops the entries', 'clears the words', 'clears the lost mark',
+                              'sets the lost mark', 'removes an entry')])):
+        assert names
+        for name in names:
+            assert failing(check, mutants.program(*found[name])), (check.__name__, name)
 
 
 # Document 02, K10.
@@ -1347,10 +1918,10 @@ def test_digests_are_those_of_the_format():
         if order[0] == drive.DIGEST:
             mux = driver.mux
             u, memory = mux.record, mux.memory
-            numbers = [getattr(u, field) for field in drive.FIELDS] + list(u.codes)
+            numbers = [getattr(u, field) for field in drive.FIELDS] + [*u.stack, *u.codes]
             for port in u.port:
                 numbers += [*port[:6], mux2.BYTE_OF[port.control], *port[7:]]
-            assert len(numbers) == 1288 and driver.record() == drive.digest(numbers)
+            assert len(numbers) == 1331 and driver.record() == drive.digest(numbers)
             assert memory.digest() == drive.digest(map(memory.word, range(mux2.ROOM)))
 
 
@@ -1364,17 +1935,18 @@ def test_filled_memory():
 
 def test_orders_keep_the_format():
     word, number, port_field = 65535, 4294967295, [1, 255, 1, 1, 1, 1, 255, 1, 1]
-    field = [number] * 4 + [1, 1, 1, word]
+    field = [number] * 4 + [1, 1, 1, word, 1, 1, number]
     most = {1: (number, number, number, 1), 2: (number, 255, 1, 1), 3: (number,), 4: (number, 1),
-            13: (32760,), 14: (number, 32760), 20: (39999, word), 21: (2147483646,), 22: (40000,),
-            23: (4200, word), 24: (7, number), 25: (127, 8, 255), 26: (255,),
+            13: (32760,), 14: (number, 32760), 15: (1,), 16: (39, word), 20: (39999, word), 21: (2147483646,), 22: (40000,),
+            23: (4200, word), 24: (10, number), 25: (127, 8, 255), 26: (255,),
             27: (127, 1), 28: (2,), 29: (127, 1)}
     written = [sessions.write_session(7, number)[0] for number in range(len(sessions.KINDS))]
     by_calls = [sessions.codes_session()[0], sessions.short_session()[0], session_of_the_sets()[0],
-                sessions.small_sets_session()[0]]
-    pokes = (drive.POKE, drive.POKE_PORT)
+                sessions.small_sets_session()[0], sessions.stack_session()[0], sessions.kinds_session()[0]]
+    pokes = (drive.POKE, drive.POKE_PORT, drive.POKE_STACK)
     assert not any(order[0] in pokes for author in by_calls for order in author.orders)
-    for author in written + by_calls + [sessions.speeds_session()[0], sessions.bases_session()[0]]:
+    by_pokes = [sessions.bases_session()[0], sessions.poked_session()[0], sessions.small_stack_session()[0]]
+    for author in written + by_calls + by_pokes + [sessions.speeds_session()[0]]:
         for op, *rest in author.orders:
             limits = most.get(op, ())
             assert op in drive.NAMES and len(rest) == len(limits)
