@@ -37,39 +37,25 @@ fn kind_number(k: Kind) -> u64
     }
 }
 
+// The digest h with words, in their order.
+fn more_words(h: u64, words: &[u16]) -> u64
+    requires { ⌜ h < 2147483647 ⌝ }
+    ensures { λ r. ⌜ Below 2147483647 (foldl taken h (now (words .entry))) r ⌝ }
+{
+    let mut d = h;
+    let mut i = 0;
+    while i < words.len() {
+        d = taken(d, words[i] as u64);
+        i += 1;
+    }
+    d
+}
+
 // The digest of words, in the order of their addresses.
 pub fn of_words(words: &[u16]) -> u64
     ensures { λ r. ⌜ Below 2147483647 (digest (now (words .entry))) r ⌝ }
 {
-    let mut h = 1;
-    let mut i = 0;
-    while i < words.len() {
-        h = taken(h, words[i] as u64);
-        i += 1;
-    }
-    h
-}
-
-// The digest h with a place of a stack.
-fn of_place(h: u64, x: u16) -> u64
-    requires { ⌜ h < 2147483647 ⌝ }
-    ensures { λ r. ⌜ Below 2147483647 (taken h x) r ⌝ }
-{
-    taken(h, x as u64)
-}
-
-// The digest h with the places of a stack.
-fn of_stack(h: u64, a: [u16; 40]) -> u64
-    requires { ⌜ h < 2147483647 ⌝ }
-    ensures { λ r. ⌜ Below 2147483647 (foldl taken h a) r ⌝ }
-{
-    let mut d = h;
-    let mut i = 0;
-    while i < 40 {
-        d = of_place(d, a[i]);
-        i += 1;
-    }
-    d
+    more_words(1, words)
 }
 
 // The digest h with the numbers of a set, one for each code.
@@ -153,8 +139,8 @@ pub fn of_record(u: Mux) -> u64
     let q = u.irq;
     let a = q.stack;
     let t = u.port;
-    let h = of_kind(of_scalars(u), k, q);
-    of_ports(of_codes(of_stack(h, a), codes), t)
+    let h = more_words(of_kind(of_scalars(u), k, q), &a);
+    of_ports(of_codes(h, codes), t)
 }
 
 // The word at an address, 0 past the end.
