@@ -299,9 +299,9 @@ start = does (Processor Start)
 abbrev pub ticks : List Single
 ticks = does (Processor Iopls) ∷ does (Processor Tick) ∷ []
 
--- a Mighty Mux of 41 ports, b 8, base 64, each with a character to send in single mode, OCW 60101 octal, after some more single things
+-- a Mighty Mux of 41 ports, b 8, base 256, each with a character to send in single mode, OCW 60101 octal, after some more single things
 abbrev pub crowd : List Single → World
-crowd xs = kindAfter MightyMux 8 41 64 (replicate 32768 0o60101) xs
+crowd xs = kindAfter MightyMux 8 41 256 (replicate 32768 0o60101) xs
 
 -- 40 of them served; then the last
 abbrev pub full : World
@@ -331,14 +331,14 @@ pub record Stacks : Type 0 where
   pub tick-gone : statusOf (runSingles (runSingles (stacked (look ∷ look ∷ [])) ticks) (start ∷ [])) ≡ 7200
   -- 40 entries, none lost; the 41st interrupt is raised and its OCW written, but not queued: bit 1 beside the oldest entry
   pub forty : full .mux .irq .fill ≡ 40
-  pub forty-shown : statusOf full ≡ 4352
+  pub forty-shown : statusOf full ≡ 5120
   pub lost-raised : result full look .reply .answer .raised ≡ true
-  pub lost-written : getD (over .memory) 385 0 ≡ 0o160101
+  pub lost-written : getD (over .memory) 577 0 ≡ 0o160101
   pub lost-fill : over .mux .irq .fill ≡ 40
-  pub lost-shown : statusOf over ≡ 20736
+  pub lost-shown : statusOf over ≡ 21504
   -- START leaves the mark while entries remain, and clears it with the last
-  pub lost-next : statusOf (runSingles over (start ∷ [])) ≡ 20768
-  pub lost-last : statusOf (runSingles over (replicate 39 start)) ≡ 21984
+  pub lost-next : statusOf (runSingles over (start ∷ [])) ≡ 21536
+  pub lost-last : statusOf (runSingles over (replicate 39 start)) ≡ 22752
   pub lost-gone : runSingles over (replicate 40 start) .mux .irq ≡ Interrupt.fresh
   -- reset empties the stack and clears the mark
   pub reset-gone : runSingles over (does (Processor Reset) ∷ []) .mux .irq ≡ Interrupt.fresh

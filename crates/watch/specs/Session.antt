@@ -38,9 +38,9 @@ use Rattle.watch.specs.declared.say.Before.{Before}
 
 -- ---- the unit
 
--- three ports with blocks of 8 words from word 64 on
+-- three ports with blocks of 8 words from word 256 on, where either kind may have them
 abbrev pub three : Kind → List Bool → Setting
-three kind codes = record { kind = kind; block = 8; ports = 3; base = 64; special = codes }
+three kind codes = record { kind = kind; block = 8; ports = 3; base = 256; special = codes }
 
 -- where word k of port p's control block lies, whatever the kind and the set
 unfoldable pub placeOf : ℕ → ℕ → ℕ

@@ -24,7 +24,7 @@ ghost use lib.ListN.{length, getD};
 ghost use Rattle.ground.specs.Choose.{Below};
 ghost use Rattle.watch.specs.Session.{three, placeOf, withWord, controlWord, controlPut, inputAsked, inputPut, greetingPut, outputPut};
 
-// A unit of that kind: three ports with blocks of 8 words from word 64 on, and that set of special codes.
+// A unit of that kind: three ports with blocks of 8 words from word 256 on, where either kind may have them, and that set of special codes.
 pub fn three(kind: Kind, codes: [bool; 128]) -> Setting
     ensures { λ r. ⌜ r ≡ three kind codes ⌝ }
 {
@@ -32,7 +32,7 @@ pub fn three(kind: Kind, codes: [bool; 128]) -> Setting
         kind,
         block: 8,
         ports: 3,
-        base: 64,
+        base: 256,
         special: codes,
     }
 }

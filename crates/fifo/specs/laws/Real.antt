@@ -15,6 +15,7 @@ use Rattle.ground.specs.Tab.{tab}
 use Rattle.ground.specs.Machine
 use Rattle.ground.specs.Machine.{tally, gather}
 use Rattle.interrupt.specs.declared.Kind.the-variants.{MightyMux}
+use Rattle.unit.specs.declared.mux.Setting.{Setting}
 use Rattle.unit.specs.Record.{noMux}
 use Rattle.unit.specs.Reply.{World, world}
 use Rattle.processor.specs.declared.orders.Order.the-variants.{Doc}
@@ -51,21 +52,25 @@ none-since w (a ∷ xs) e = by (isClear a) refl e (none-since (after w a) xs)
 
 -- ---- the example
 
--- a Mighty Mux of 41 ports, just set up, each port with a character to send in single mode
+-- a Mighty Mux of 41 ports
+abbrev board : Setting
+board = settingFor MightyMux 8 41 256
+
+-- just set up, each port with a character to send in single mode
 abbrev unit : World
-unit = after (world noMux (replicate 32768 0o60101)) (setsUp (settingFor MightyMux 8 41 64))
+unit = after (world noMux (replicate 32768 0o60101)) (setsUp board)
 
 pub begun : Begun unit
 unfolding everything
-begun = record { mighty = refl; before = world noMux (replicate 32768 0o60101); by = setsUp (settingFor MightyMux 8 41 64); clears = setup (settingFor MightyMux 8 41 64) refl refl; now = refl }
+begun = record { mighty = refl; before = world noMux (replicate 32768 0o60101); by = setsUp board; clears = setup board refl refl; now = refl }
 
 -- it is started, its 41 ports are served, and START is given twice
 abbrev events : List Single
 events = does (Processor Doc) ∷ (replicate 41 look ++ (start ∷ start ∷ []))
 
--- the entry of each port in turn: output, addresses 8 to 47
+-- the entry of each port in turn: output, addresses 32 to 71
 abbrev ports : List ℕ
-ports = tab 40 (λ k. 4096 + (8 + k) * 32)
+ports = tab 40 (λ k. 4096 + (32 + k) * 32)
 
 pub record Overfilled : Type 0 where
   pub accepted : gather after accepts unit events ≡ ports

@@ -70,6 +70,6 @@ abbrev once : World
 once = after (Processor Dias) waits
 
 -- at a Mighty Mux the three interrupts are read in their order, the first with the clock's bit; then nothing is left
-pub stack-read : (reads waits ∷ reads once ∷ reads (readTwice waits) ∷ reads (readTwice once) ∷ [] ≡ 37120 ∷ 4384 ∷ 4416 ∷ 0 ∷ []) × (mighty clear .mux .irq ≡ Interrupt.fresh)
+pub stack-read : (reads waits ∷ reads once ∷ reads (readTwice waits) ∷ reads (readTwice once) ∷ [] ≡ 37888 ∷ 5152 ∷ 5184 ∷ 0 ∷ []) × (mighty clear .mux .irq ≡ Interrupt.fresh)
 unfolding parts
 stack-read = (refl, refl)
