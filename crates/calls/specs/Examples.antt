@@ -1,10 +1,11 @@
--- The settled examples of document 01 that are marked *, values of the 1974 manual, and worked examples of four requests, stated of the definitions.
+-- The settled examples of document 01 that are marked *, values of the 1974 manual, and worked examples of five requests, stated of the definitions.
 --   Starred   the examples of document 01, in its order
 --   Manual    001: section 6 and appendix B, as docs/DECISIONS.md makes them
 --   Bases     document 02, K1: where the two numbers of a wrong base begin and end
 --   Buffers   document 02, K2: buffers that are set up too short, and buffers that lie on their own port's words
 --   Sets      document 02, K5: a name with a glottal stop in it, in units of different sets
 --   Stacks    document 02, K6: a Mighty Mux whose stack is filled, overfilled and emptied
+--   Boards    document 02, K7: the bases of a Mighty Mux, beside those of an EDS-8
 -- Each is computed: a unit is set up and started, calls are made, and what they leave is compared.
 -- Not here: that they hold, in laws/Examples; the examples that are run and not proved, in the programs.
 -- Assumes nothing.
@@ -25,7 +26,7 @@ use Rattle.interrupt.specs.Interrupt as Interrupt
 use Rattle.unit.specs.declared.mux.Setting.{Setting}
 use Rattle.unit.specs.declared.reply.Turn.{Turn}
 use Rattle.unit.specs.declared.reply.Turn.the-variants.{Served}
-use Rattle.unit.specs.Record.{noMux, portAt}
+use Rattle.unit.specs.Record.{fresh, noMux, portAt}
 use Rattle.unit.specs.Reply.{World, world}
 use Rattle.unit.specs.Setup.{setup}
 use Rattle.lines.specs.declared.signal.Signal.the-variants.{Arrival, TransmitterEmpty, DeviceStatus}
@@ -68,8 +69,12 @@ turnsOf w [] = []
 turnsOf w (x ∷ xs) = result w x .reply .answer .turn ∷ turnsOf (after w x) xs
 
 -- the number that setup gives
+abbrev pub codeFor : Kind → ℕ → ℕ → ℕ → ℕ
+codeFor k b n base = setup (settingFor k b n base) .reply .code
+
+-- to an EDS-8
 abbrev pub codeOf : ℕ → ℕ → ℕ → ℕ
-codeOf b n base = setup (settingOf b n base) .reply .code
+codeOf b n base = codeFor Eds8 b n base
 
 -- the status word, as DIA returns it
 abbrev pub statusOf : World → ℕ
@@ -342,3 +347,45 @@ pub record Stacks : Type 0 where
   pub lost-gone : runSingles over (replicate 40 start) .mux .irq ≡ Interrupt.fresh
   -- reset empties the stack and clears the mark
   pub reset-gone : runSingles over (does (Processor Reset) ∷ []) .mux .irq ≡ Interrupt.fresh
+
+-- the number that setup gives to a Mighty Mux
+abbrev pub boardOf : ℕ → ℕ → ℕ → ℕ
+boardOf b n base = codeFor MightyMux b n base
+
+-- the number of a DOC at a record of that kind that no setup made: one port, b 8, base 64
+abbrev pub docAt : Kind → ℕ
+docAt k = result (world (fresh (settingFor k 8 1 64)) clear) (does (Processor Doc)) .reply .code
+
+pub record Boards : Type 0 where
+  -- b 8, base 64: a multiple of 64 alone gives 12, and an EDS-8 takes it
+  pub alone : boardOf 8 1 64 ≡ 12
+  pub alone-eds-8 : codeOf 8 1 64 ≡ 0
+  -- base 32832, which is no multiple of octal 400 either: 11 comes before 12
+  pub high-first : boardOf 8 1 32832 ≡ 11
+  -- base 256: P 96 accepted, P 97 gives 4, as to an EDS-8
+  pub ports-96 : boardOf 8 96 256 ≡ 0
+  pub ports-97 : boardOf 8 97 256 ≡ 4
+  pub ports-97-eds-8 : codeOf 8 97 256 ≡ 4
+  -- b 16, base 128: 12, and an EDS-8 takes it
+  pub sixteen : boardOf 16 1 128 ≡ 12
+  pub sixteen-eds-8 : codeOf 16 1 128 ≡ 0
+  -- no multiple of 8b, and so none of octal 400: 3, in every block size
+  pub both-8 : boardOf 8 1 32 ≡ 3
+  pub both-16 : boardOf 16 1 64 ≡ 3
+  pub both-32 : boardOf 32 1 128 ≡ 3
+  -- 12 comes before 4: 121 blocks from 64 on cross a multiple of 1024
+  pub before-crossing : boardOf 8 121 64 ≡ 12
+  pub crossing-eds-8 : codeOf 8 121 64 ≡ 4
+  -- a block size or a number of ports that is wrong too comes first
+  pub block-first : boardOf 7 1 64 ≡ 1
+  pub ports-first : boardOf 8 0 64 ≡ 2
+  -- octal 400 and not 200 or 1000; the least base, the last, and the board as delivered, octal 36000
+  pub octal-200 : boardOf 8 1 0o200 ≡ 12
+  pub octal-400 : boardOf 8 1 0o400 ≡ 0
+  pub octal-600 : boardOf 8 1 0o600 ≡ 12
+  pub least : boardOf 8 128 0 ≡ 0
+  pub last : boardOf 8 32 32512 ≡ 0
+  pub delivered : boardOf 32 32 0o36000 ≡ 0
+  -- a record of that kind with its base at a multiple of 64 alone is unsound, and an EDS-8's is not
+  pub record-refused : docAt MightyMux ≡ 6
+  pub record-taken : docAt Eds8 ≡ 0

@@ -1,18 +1,20 @@
--- The numbers a call may refuse with (document 01, the table of that name; document 02, K1 and K10).
---   WORDS .. TOO-HIGH        the limits and the numbers, a name each; the number between 4 and 6 is retired (K10)
---   sizeRows, baseRows, areaRows   rows 1 to 4 and 11, for setup and, of a record's own setting, for row 6
+-- The numbers a call may refuse with (document 01, the table of that name; document 02, K1, K7 and K10).
+--   WORDS .. BAD-LOCATION    the limits and the numbers, a name each; the number between 4 and 6 is retired (K10)
+--   sizeRows, baseRows, areaRows   rows 1 to 4, 11 and 12, for setup and, of a record's own setting, for row 6
 --   Given                    what a call is given: each argument where the call has one
 --   refusal                  the table: the first row that applies, and 0 where none does
 --   ofSetup .. ofSweep       what each kind of call is given
 -- Not here: what a refused call leaves, in Reply; what each number says, in laws/Refusals.
 -- Assumes nothing.
-use mathlib.Core.Bool.{Bool, not, _||_}
+use mathlib.Core.Bool.{Bool, false, not, _||_}
 use mathlib.Core.List.{List, [], _∷_, _++_}
 use mathlib.Core.Option.{Option, some, none}
 use Prim.Native.Nat.{ℕ, _+_, _-_, _*_, _/_, _%_}
 use lib.Dec.{eqb, leb, ltb}
 use lib.ListN.{length}
 use Rattle.ground.specs.Choose.{asked, Row, row, firstOf}
+use Rattle.interrupt.specs.declared.Kind.{Kind}
+use Rattle.interrupt.specs.declared.Kind.the-variants.{Eds8, MightyMux}
 use Rattle.interrupt.specs.Interrupt as Interrupt
 use Rattle.unit.specs.declared.mux.Setting.{Setting}
 use Rattle.unit.specs.declared.mux.Mux.{Mux}
@@ -30,6 +32,10 @@ MOST-PORTS = 128
 -- inspections of a sweep, at most
 abbrev pub MOST-INSPECTIONS : ℕ
 MOST-INSPECTIONS = 4096
+
+-- a Mighty Mux's control area starts at a multiple of so many words (000, section 3.7.7)
+abbrev pub AREA-STEP : ℕ
+AREA-STEP = 0o400
 
 abbrev pub BAD-BLOCK : ℕ
 BAD-BLOCK = 1
@@ -61,6 +67,9 @@ SHORT-LIST = 10
 abbrev pub TOO-HIGH : ℕ
 TOO-HIGH = 11
 
+abbrev pub BAD-LOCATION : ℕ
+BAD-LOCATION = 12
+
 -- ---- what each row asks
 
 -- b is not 8, 16 or 32
@@ -79,6 +88,11 @@ misaligned b a = not (eqb (a % (8 * b)) 0)
 unfoldable pub tooHigh : ℕ → Bool
 tooHigh a = ltb 32767 a
 
+-- of a Mighty Mux: base is not a multiple of octal 400; an EDS-8 is not asked
+unfoldable pub badLocation : Kind → ℕ → Bool
+badLocation Eds8 a = false
+badLocation MightyMux a = not (eqb (a % AREA-STEP) 0)
+
 -- floor(base / 128b) differs from floor((base + P·b − 1) / 128b)
 unfoldable pub crosses : ℕ → ℕ → ℕ → Bool
 crosses b n a = not (eqb (a / (128 * b)) ((a + n * b - 1) / (128 * b)))
@@ -89,15 +103,19 @@ crosses b n a = not (eqb (a / (128 * b)) ((a + n * b - 1) / (128 * b)))
 unfoldable pub sizeRows : Setting → List Row
 sizeRows s = row BAD-BLOCK (badBlock (s .block)) ∷ row BAD-PORTS (badPorts (s .ports)) ∷ []
 
--- rows 3 and 11: the base
+-- rows 3, 11 and 12: the base
 unfoldable pub baseRows : Setting → List Row
-baseRows s = row MISALIGNED (misaligned (s .block) (s .base)) ∷ row TOO-HIGH (tooHigh (s .base)) ∷ []
+baseRows s =
+    row MISALIGNED (misaligned (s .block) (s .base))
+    ∷ row TOO-HIGH (tooHigh (s .base))
+    ∷ row BAD-LOCATION (badLocation (s .kind) (s .base))
+    ∷ []
 
 -- row 4: the area
 unfoldable pub areaRows : Setting → List Row
 areaRows s = row CROSSES (crosses (s .block) (s .ports) (s .base)) ∷ []
 
--- rows 1, 2, 3, 11 and 4
+-- rows 1, 2, 3, 11, 12 and 4
 unfoldable pub settingRows : Setting → List Row
 settingRows s = sizeRows s ++ (baseRows s ++ areaRows s)
 

@@ -9,10 +9,11 @@ use mathlib.Core.Path.{_≡_}
 use mathlib.Core.Bool.{false}
 use Prim.Native.Nat.{ℕ, _+_, _-_, _*_, _/_, _%_, _<_, _≤_}
 use lib.ListN.{length}
+use Rattle.interrupt.specs.declared.Kind.the-variants.{MightyMux}
 use Rattle.interrupt.specs.Interrupt as Interrupt
 use Rattle.unit.specs.declared.mux.Setting.{Setting}
 use Rattle.unit.specs.declared.mux.Mux.{Mux}
-use Rattle.unit.specs.Refusals.{MOST-PORTS}
+use Rattle.unit.specs.Refusals.{MOST-PORTS, AREA-STEP}
 
 -- a block is 8, 16 or 32 words
 pub data IsBlock (b : ℕ) : Type 0 where
@@ -26,10 +27,11 @@ pub record SizeFits (s : Setting) : Type 0 where
   pub some-port : 0 < s .ports
   pub few-ports : s .ports ≤ MOST-PORTS
 
--- rows 3 and 11 do not: the base
+-- rows 3, 11 and 12 do not: the base
 pub record BaseFits (s : Setting) : Type 0 where
   pub aligned : s .base % (8 * s .block) ≡ 0
   pub low : s .base ≤ 32767
+  pub located : s .kind ≡ MightyMux → s .base % AREA-STEP ≡ 0
 
 -- row 4 does not: the area
 pub record AreaFits (s : Setting) : Type 0 where

@@ -1,9 +1,10 @@
-// The numbers a call may refuse with: the table of document 01 with K1's row and without the one that K10 took out, row by row, and what each kind of call asks for first.
+// The numbers a call may refuse with: the table of document 01 with the rows of K1 and K7 and without the one that K10 took out, row by row, and what each kind of call asks for first.
 use crate::mux::Mux;
 use crate::mux::Setting;
+use interrupt::Kind;
 ghost use mathlib.Core.Path.{_≡_};
 ghost use Rattle.ground.specs.Choose.{firstOf};
-ghost use Rattle.unit.specs.Refusals.{badBlock, badPorts, misaligned, tooHigh, crosses, sizeRows, baseRows, areaRows, refusal, ofSetup, ofUnit, ofPort, ofInspection, ofSweep, unsound};
+ghost use Rattle.unit.specs.Refusals.{badBlock, badPorts, misaligned, tooHigh, badLocation, crosses, sizeRows, baseRows, areaRows, refusal, ofSetup, ofUnit, ofPort, ofInspection, ofSweep, unsound};
 ghost use Rattle.unit.specs.Sound.{SizeFits, BaseFits};
 
 // How many words of memory are lent, how many ports a unit may have, how many inspections a sweep may ask for.
@@ -12,6 +13,9 @@ pub const WORDS: usize = 32768;
 pub const MOST_PORTS: u32 = 128;
 
 pub const MOST_INSPECTIONS: u32 = 4096;
+
+// A Mighty Mux's control area starts at a multiple of so many words (000, section 3.7.7).
+pub const AREA_STEP: u32 = 0o400;
 
 // The numbers, with the names of specs/Refusals.antt; the one between 4 and 6 is retired.
 pub const BAD_BLOCK: u8 = 1;
@@ -33,6 +37,8 @@ pub const TOO_MANY: u8 = 9;
 pub const SHORT_LIST: u8 = 10;
 
 pub const TOO_HIGH: u8 = 11;
+
+pub const BAD_LOCATION: u8 = 12;
 
 // Row 1: b is not 8, 16 or 32.
 fn bad_block(b: u32) -> bool
@@ -72,6 +78,16 @@ pub fn too_high(a: u32) -> bool
     32767 < a
 }
 
+// Row 12: the base of a Mighty Mux is not a multiple of octal 400.
+fn bad_location(k: Kind, a: u32) -> bool
+    ensures { λ r. ⌜ r ≡ badLocation k a ⌝ }
+{
+    match k {
+        Kind::Eds8 => false,
+        Kind::MightyMux => a % AREA_STEP != 0,
+    }
+}
+
 // Row 4: the area crosses a multiple of 128b.
 fn crosses(s: Setting) -> bool
     requires { ⌜ SizeFits s ⌝ }
@@ -95,16 +111,20 @@ fn size_code(s: Setting) -> u8
     0
 }
 
-// Rows 3 and 11: the base.
+// Rows 3, 11 and 12: the base.
 fn base_code(s: Setting) -> u8
     requires { ⌜ SizeFits s ⌝ }
     ensures { λ r. ⌜ r ≡ firstOf (baseRows s) ⌝ }
 {
+    let k = s.kind;
     if misaligned(s) {
         return MISALIGNED;
     }
     if too_high(s.base) {
         return TOO_HIGH;
+    }
+    if bad_location(k, s.base) {
+        return BAD_LOCATION;
     }
     0
 }

@@ -1,6 +1,6 @@
 -- The worked examples hold: each is computed.
 --   everything        every definition that a step of the unit computes with, named once
---   starred, manual, bases, buffers, sets   the examples of document 01, those of the 1974 manual, and those of K1, K2 and K5
+--   starred, manual, bases, buffers, sets, stacks, boards   the examples of document 01, those of the 1974 manual, and those of K1, K2, K5, K6 and K7
 -- Not here: what the examples are, in specs/Examples.
 -- Assumes nothing.
 use mathlib.Core.Path.{refl}
@@ -20,7 +20,7 @@ use Rattle.interrupt.specs.Stack.{entry, pushed, removed, popped, oldest, top}
 use Rattle.interrupt.specs.Interrupt.{merged, raised, started, ticked, shown}
 use Rattle.unit.specs.Record.{portAt, blockAt, addressAt}
 use Rattle.unit.specs.Reply.{counts, guarded}
-use Rattle.unit.specs.Refusals.{badBlock, badPorts, misaligned, tooHigh, crosses, sizeRows, baseRows, areaRows, settingRows, unsound, rowsOf, callRows, tableOf, refusal}
+use Rattle.unit.specs.Refusals.{badBlock, badPorts, misaligned, tooHigh, badLocation, crosses, sizeRows, baseRows, areaRows, settingRows, unsound, rowsOf, callRows, tableOf, refusal}
 use Rattle.unit.specs.Setup.{setup}
 use Rattle.lines.specs.Lines.{signalled, line}
 use Rattle.processor.specs.Processor.{order}
@@ -31,11 +31,11 @@ use Rattle.scan.specs.Turn.{service, took, irqAfter, servedTurn, idleTurn, turn
 use Rattle.scan.specs.Scan.{nextPos, serviceTurn, scanned, inspection}
 use Rattle.calls.specs.Calls.{setUp, performed}
 use Rattle.calls.specs.Events.{result, counted}
-use Rattle.calls.specs.Examples.{turnsOf, Starred, Manual, Bases, Buffers, Sets, Stacks}
+use Rattle.calls.specs.Examples.{turnsOf, Starred, Manual, Bases, Buffers, Sets, Stacks, Boards}
 
 -- every definition that a step of the unit computes with: to unfold this is to unfold them all
 unfoldable pub everything : Unit {0}
-unfolding pick bit asked firstOf Machine.run Machine.total get put storedByte wordByte echoedByte atEnd halfAt byteAt storeByte wordIf byteIf tab isSpecial set1974 specialIn withCode lengthOf spanOf cut speedOf busy moreMarked serviceMarked statusAfter entry pushed removed popped oldest top merged raised started ticked shown Interrupt.cleared Interrupt.unsound portAt blockAt addressAt counts guarded badBlock badPorts misaligned tooHigh crosses sizeRows baseRows areaRows settingRows unsound rowsOf callRows tableOf refusal setup signalled line Processor.after order errorCode ascii replacedICW doneICW replacedPlan donePlan storedPlan inputPlan carried inputService outDone isAuto autoPlan controlPlan singlePlan outputPlan differs statusBits becomesChanged writtenOCW outputService service took irqAfter servedTurn idleTurn turn nextPos serviceTurn scanned inspection setUp performed result counted turnsOf
+unfolding pick bit asked firstOf Machine.run Machine.total get put storedByte wordByte echoedByte atEnd halfAt byteAt storeByte wordIf byteIf tab isSpecial set1974 specialIn withCode lengthOf spanOf cut speedOf busy moreMarked serviceMarked statusAfter entry pushed removed popped oldest top merged raised started ticked shown Interrupt.cleared Interrupt.unsound portAt blockAt addressAt counts guarded badBlock badPorts misaligned tooHigh badLocation crosses sizeRows baseRows areaRows settingRows unsound rowsOf callRows tableOf refusal setup signalled line Processor.after order errorCode ascii replacedICW doneICW replacedPlan donePlan storedPlan inputPlan carried inputService outDone isAuto autoPlan controlPlan singlePlan outputPlan differs statusBits becomesChanged writtenOCW outputService service took irqAfter servedTurn idleTurn turn nextPos serviceTurn scanned inspection setUp performed result counted turnsOf
 everything = tt
 
 pub starred : Starred
@@ -188,4 +188,33 @@ stacks =
       lost-last = refl;
       lost-gone = refl;
       reset-gone = refl;
+    }
+
+pub boards : Boards
+unfolding everything
+boards =
+    record {
+      alone = refl;
+      alone-eds-8 = refl;
+      high-first = refl;
+      ports-96 = refl;
+      ports-97 = refl;
+      ports-97-eds-8 = refl;
+      sixteen = refl;
+      sixteen-eds-8 = refl;
+      both-8 = refl;
+      both-16 = refl;
+      both-32 = refl;
+      before-crossing = refl;
+      crossing-eds-8 = refl;
+      block-first = refl;
+      ports-first = refl;
+      octal-200 = refl;
+      octal-400 = refl;
+      octal-600 = refl;
+      least = refl;
+      last = refl;
+      delivered = refl;
+      record-refused = refl;
+      record-taken = refl;
     }

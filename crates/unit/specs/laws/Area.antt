@@ -1,16 +1,16 @@
 -- Where the area ends, and what taking out its check changed: nothing (document 02, K10).
 --   rows-end                 where rows 1, 11 and 4 do not apply the area ends at or before word 32768; rows 2 and 3 are not asked
 --   taken-end                so it does of every setting that setup takes
---   five, rowsWithFive       row 5, and setup's table with it, as they were: for comparisons alone, these and K1's
+--   five, rowsWithFive       row 5, and setup's table with it, as they were, without K7's row: for comparisons alone, these and K1's
 --   order-was                the order of that table's numbers
 --   five-iff                 that row applied exactly where the area ends past word 32768
 --   five-idle, five-never    with it the table gives the number that it gives without it, and never 5
---   setup-unchanged          every setup answers as it did, number and record
---   sound-unchanged, calls-unchanged   row 6 refuses the same records, and every other call is refused as it was
+--   setup-unchanged          every setup of an EDS-8, of which K7 changed nothing, answers as it did, number and record
+--   sound-unchanged, calls-unchanged   row 6 refuses the same records of that kind, and every other call on them is refused as it was
 --   Rests, rests             what this rests on, computed: without row 11, 4 or 1 an area could end past word 32768; and that one may end there
 -- Not here: the same in numbers, in Sound; that no call is refused with 5, in Refusals.
 -- Assumes nothing.
-use mathlib.Core.Path.{_≡_, refl, sym, ap, _∙_}
+use mathlib.Core.Path.{_≡_, refl, sym, _∙_}
 use mathlib.Core.Bool.{true, false}
 use mathlib.Core.List.{List, [], _∷_, _++_, map}
 use mathlib.Core.Logic.{_↔_}
@@ -19,15 +19,16 @@ use Prim.Native.Nat.{ℕ, _+_, _*_, _<_, _≤_}
 use lib.Dec.{eqb, ltb}
 use borrow.Author.Tests.{ltb-true, lt-ltb, le-ltb}
 use Rattle.ground.specs.Choose.{pick, asked, Row, row, firstOf}
-use Rattle.ground.specs.laws.Rows.{first-idle}
+use Rattle.ground.specs.laws.Rows.{first-zero, never, first-idle}
+use Rattle.interrupt.specs.declared.Kind.the-variants.{Eds8}
 use Rattle.unit.specs.declared.mux.Setting.{Setting}
 use Rattle.unit.specs.declared.mux.Mux.{Mux}
 use Rattle.unit.specs.Record.{noSetting}
-use Rattle.unit.specs.Refusals.{WORDS, BAD-BLOCK, CROSSES, TOO-HIGH, badBlock, badPorts, misaligned, tooHigh, crosses, sizeRows, baseRows, areaRows, settingRows, unsound, Given, rowsOf, callRows, tableOf, refusal, ofSetup}
+use Rattle.unit.specs.Refusals.{WORDS, BAD-BLOCK, CROSSES, TOO-HIGH, badBlock, badPorts, misaligned, tooHigh, badLocation, crosses, sizeRows, baseRows, areaRows, settingRows, unsound, Given, rowsOf, callRows, tableOf, refusal, ofSetup}
 use Rattle.unit.specs.Setup.{setup}
-use Rattle.unit.specs.laws.Refusals.{never-five, setup-refusal}
-use Rattle.unit.specs.laws.Sound.{good-block, low-base, good-area, fits-iff, setup-iff, area-ends, fits-end}
-use Rattle.unit.specs.laws.Tables.{setupBy, unsoundBy, callRowsBy, same-setup, Alike, same-sound, same-calls}
+use Rattle.unit.specs.laws.Sound.{good-block, low-base, good-area, setup-iff, area-ends, fits-end}
+use Rattle.unit.specs.laws.Location.{rowsBefore, OfEds8, eds8-number}
+use Rattle.unit.specs.laws.Tables.{setupBy, unsoundBy, callRowsBy, same-setup, alike-by, same-sound, same-calls}
 
 -- ---- where the area ends
 
@@ -48,11 +49,11 @@ five s = row 5 (ltb 32768 (s .base + s .ports * s .block))
 
 -- rows 1, 2, 3, 11, 4 and 5
 unfoldable pub rowsWithFive : Setting → List Row
-rowsWithFive s = settingRows s ++ (five s ∷ [])
+rowsWithFive s = rowsBefore s ++ (five s ∷ [])
 
 -- the numbers in the order in which they were asked
 pub order-was : (s : Setting) → map (λ (r : Row). r .number) (rowsWithFive s) ≡ 1 ∷ 2 ∷ 3 ∷ 11 ∷ 4 ∷ 5 ∷ []
-unfolding rowsWithFive five settingRows sizeRows baseRows areaRows
+unfolding rowsWithFive five rowsBefore sizeRows areaRows
 order-was s = refl
 
 -- the row applied exactly where the area ends past word 32768
@@ -63,29 +64,33 @@ five-iff s = (λ e. ltb-true 32768 _ e, λ h. lt-ltb 32768 _ h)
 -- ---- what changed
 
 -- the row never was the first that applies
-pub five-idle : (s : Setting) → firstOf (rowsWithFive s) ≡ firstOf (settingRows s)
-unfolding rowsWithFive five
-five-idle s = first-idle (settingRows s) (five s) (λ e. le-ltb 32768 _ (fits-end s (fits-iff s .0 e)))
+pub five-idle : (s : Setting) → firstOf (rowsWithFive s) ≡ firstOf (rowsBefore s)
+unfolding rowsWithFive five rowsBefore sizeRows areaRows
+five-idle s = first-idle (rowsBefore s) (five s) idle
+  where
+    idle : firstOf (rowsBefore s) ≡ 0 → ltb 32768 (s .base + s .ports * s .block) ≡ false
+    idle e = let p = first-zero (rowsBefore s) refl .0 e in le-ltb 32768 _ (rows-end s (p .0) (p .1 .1 .1 .0) (p .1 .1 .1 .1 .0))
 
 -- so no setting had the number 5
 pub five-never : (s : Setting) → firstOf (rowsWithFive s) ≡ 5 → ⊥
-five-never s e = never-five (ofSetup s) (setup-refusal s ∙ (sym (five-idle s) ∙ e))
+unfolding rowsBefore sizeRows areaRows
+five-never s e = never (rowsBefore s) 5 refl (sym (five-idle s) ∙ e)
 
--- every setup answers as it did, number and record
-pub setup-unchanged : (s : Setting) → setup s ≡ setupBy rowsWithFive s
-setup-unchanged s = same-setup rowsWithFive s (setup-refusal s ∙ sym (five-idle s))
+-- an EDS-8 has the number that it had
+same-number : (s : Setting) → s .kind ≡ Eds8 → refusal (ofSetup s) ≡ firstOf (rowsWithFive s)
+same-number s k = eds8-number s k ∙ sym (five-idle s)
 
--- the two tables let the same settings pass
-same-pass : Alike rowsWithFive
-same-pass s = ap (λ (k : ℕ). eqb k 0) (sym (five-idle s))
+-- its setup answers as it did, number and record
+pub setup-unchanged : (s : Setting) → s .kind ≡ Eds8 → setup s ≡ setupBy rowsWithFive s
+setup-unchanged s k = same-setup rowsWithFive s (same-number s k)
 
--- row 6 refuses the same records
-pub sound-unchanged : (u : Mux) → unsound u ≡ unsoundBy rowsWithFive u
-sound-unchanged = same-sound rowsWithFive same-pass
+-- row 6 refuses the same records of that kind
+pub sound-unchanged : (u : Mux) → u .setting .kind ≡ Eds8 → unsound u ≡ unsoundBy rowsWithFive u
+sound-unchanged u k = same-sound rowsWithFive u (alike-by rowsWithFive (u .setting) (same-number (u .setting) k))
 
--- so every call that is no setup is refused as it was
-pub calls-unchanged : (g : Given) → g .setting ≡ none → refusal g ≡ firstOf (callRowsBy rowsWithFive g)
-calls-unchanged = same-calls rowsWithFive same-pass
+-- so every call on such a record, which is no setup, is refused as it was
+pub calls-unchanged : (g : Given) → g .setting ≡ none → OfEds8 g → refusal g ≡ firstOf (callRowsBy rowsWithFive g)
+calls-unchanged g e k = same-calls rowsWithFive g e (λ u f. alike-by rowsWithFive (u .setting) (same-number (u .setting) (k u f)))
 
 -- ---- what it rests on
 
@@ -118,7 +123,7 @@ pub record Rests : Type 0 where
   pub last-32 : Reaches (of 32 8 32512)
 
 pub rests : Rests
-unfolding pick asked firstOf refusal tableOf rowsOf callRows settingRows sizeRows baseRows areaRows badBlock badPorts misaligned tooHigh crosses
+unfolding pick asked firstOf refusal tableOf rowsOf callRows settingRows sizeRows baseRows areaRows badBlock badPorts misaligned tooHigh badLocation crosses
 rests =
     record {
       without-11 = (refl, refl);

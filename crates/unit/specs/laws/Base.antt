@@ -2,8 +2,8 @@
 --   OnlyHigh                 a base that is too high and has no other fault that is asked before
 --   misaligned-iff, too-high-iff   3 and 11, each in numbers: exactly where its row applies and none before it
 --   badBaseWas, rowsWas      row 3 and setup's table as document 01 has them: for the comparison alone
---   as-before                every setup answers as it did, but for OnlyHigh: 11 in the place of 3
---   sound-as-before, calls-as-before   row 6 refuses the same records, and every other call is refused as it was
+--   as-before                every setup of an EDS-8, of which K7 changed nothing, answers as it did, but for OnlyHigh: 11 in the place of 3
+--   sound-as-before, calls-as-before   row 6 refuses the same records of that kind, and every other call on them is refused as it was
 -- Not here: the table itself, in specs/Refusals; the law for every row, in Refusals; setup, row 6 and the other calls by any rows, in Tables.
 -- Assumes nothing.
 use mathlib.Core.Path.{_≡_, refl, sym, ap, _∙_}
@@ -16,16 +16,18 @@ use native.Mathlib.Omega.{arith}
 use lib.Dec.{eqb, ltb}
 use Rattle.ground.specs.Choose.{pick, Row, row, firstOf}
 use Rattle.ground.specs.laws.Rows.{first-zero, never, first-at}
+use Rattle.interrupt.specs.declared.Kind.the-variants.{Eds8}
 use Rattle.unit.specs.declared.mux.Setting.{Setting}
 use Rattle.unit.specs.declared.mux.Mux.{Mux}
 use Rattle.unit.specs.declared.reply.Replied.{Replied}
 use Rattle.unit.specs.Record.{fresh, noMux}
 use Rattle.unit.specs.Reply.{refused, accepted, guarded}
-use Rattle.unit.specs.Refusals.{MISALIGNED, TOO-HIGH, badBlock, badPorts, misaligned, tooHigh, crosses, sizeRows, baseRows, areaRows, settingRows, unsound, Given, refusal, ofSetup}
+use Rattle.unit.specs.Refusals.{MISALIGNED, TOO-HIGH, BAD-LOCATION, badBlock, badPorts, misaligned, tooHigh, badLocation, crosses, sizeRows, baseRows, areaRows, settingRows, unsound, Given, refusal, ofSetup}
 use Rattle.unit.specs.Setup.{setup}
 use Rattle.unit.specs.Sound.{SizeFits}
 use Rattle.unit.specs.laws.Refusals.{setup-refusal}
 use Rattle.unit.specs.laws.Sound.{good-base, low-base, size-fits}
+use Rattle.unit.specs.laws.Location.{rowsBefore, OfEds8, eds8-number}
 use Rattle.unit.specs.laws.Area.{five, rowsWithFive, five-idle}
 use Rattle.unit.specs.laws.Tables.{setupBy, unsoundBy, callRowsBy, same-setup, Alike, same-sound, same-calls}
 
@@ -53,7 +55,7 @@ pub misaligned-iff : (s : Setting) → (refusal (ofSetup s) ≡ MISALIGNED) ↔ 
 unfolding settingRows sizeRows baseRows areaRows
 misaligned-iff s =
     let z = first-zero (sizeRows s) refl in
-    let l = first-at (sizeRows s) (row MISALIGNED (misaligned (s .block) (s .base))) (row TOO-HIGH (tooHigh (s .base)) ∷ areaRows s) refl refl in (
+    let l = first-at (sizeRows s) (row MISALIGNED (misaligned (s .block) (s .base))) (row TOO-HIGH (tooHigh (s .base)) ∷ row BAD-LOCATION (badLocation (s .kind) (s .base)) ∷ areaRows s) refl refl in (
       λ e. let p = l .0 (sym (setup-refusal s) ∙ e) in (size-fits s .0 (z .1 (p .0)), applies _ _ (good-base _ _) .0 (p .1)),
       λ h. setup-refusal s ∙ l .1 (z .0 (size-fits s .1 (h .0)), applies _ _ (good-base _ _) .1 (h .1)),
     )
@@ -63,7 +65,7 @@ pub too-high-iff : (s : Setting) → (refusal (ofSetup s) ≡ TOO-HIGH) ↔ Only
 unfolding settingRows sizeRows baseRows areaRows
 too-high-iff s =
     let z = first-zero (sizeRows s) refl in
-    let l = first-at (sizeRows s ++ (row MISALIGNED (misaligned (s .block) (s .base)) ∷ [])) (row TOO-HIGH (tooHigh (s .base))) (areaRows s) refl refl in (
+    let l = first-at (sizeRows s ++ (row MISALIGNED (misaligned (s .block) (s .base)) ∷ [])) (row TOO-HIGH (tooHigh (s .base))) (row BAD-LOCATION (badLocation (s .kind) (s .base)) ∷ areaRows s) refl refl in (
       λ e. let p = l .0 (sym (setup-refusal s) ∙ e) in
           record {
             size = size-fits s .0 (z .1 (p .0 .0, (p .0 .1 .0, tt)));
@@ -106,10 +108,10 @@ by-tests false false true h k = equal refl
 by-tests false false false true k = apart refl refl
 by-tests false false false false k = equal refl
 
-numbers : (s : Setting) → Numbers (refusal (ofSetup s)) (firstOf (rowsWas s))
-unfolding settingRows sizeRows baseRows areaRows rowsWithFive rowsWas badBaseWas misaligned tooHigh firstOf
-numbers s =
-    rw (setup-refusal s, ← five-idle s)
+numbers : (s : Setting) → s .kind ≡ Eds8 → Numbers (refusal (ofSetup s)) (firstOf (rowsWas s))
+unfolding rowsBefore sizeRows areaRows rowsWithFive rowsWas badBaseWas misaligned tooHigh firstOf
+numbers s k =
+    rw (eds8-number s k, ← five-idle s)
     (by-tests (badBlock (s .block)) (badPorts (s .ports)) (misaligned (s .block) (s .base)) (tooHigh (s .base)) (firstOf (areaRows s ++ (five s ∷ []))))
 
 -- a setup answers as it did, but for one case
@@ -122,9 +124,9 @@ pub record AsBefore (s : Setting) : Type 0 where
   -- any other answer is the same, number and record
   pub same : (OnlyHigh s → ⊥) → setup s ≡ setupBy rowsWas s
 
-pub as-before : (s : Setting) → AsBefore s
+pub as-before : (s : Setting) → s .kind ≡ Eds8 → AsBefore s
 unfolding setup setupBy guarded pick rowsWas five
-as-before s = go (numbers s)
+as-before s k = go (numbers s k)
   where
     answer : ℕ → Replied
     answer k = guarded k noMux (accepted 0 (fresh s))
@@ -153,14 +155,14 @@ zero-together : (now was : ℕ) → Numbers now was → eqb now 0 ≡ eqb was 0
 zero-together now was (equal e) = rw e
 zero-together now was (apart e f) = rw (e, f)
 
--- the two tables let the same settings pass
-same-pass : Alike rowsWas
-same-pass s = zero-together _ _ (rw (setup-refusal s) at (numbers s))
+-- the two tables let the same settings of an EDS-8 pass
+same-pass : (s : Setting) → s .kind ≡ Eds8 → Alike rowsWas s
+same-pass s k = zero-together _ _ (rw (setup-refusal s) at (numbers s k))
 
--- row 6 refuses the same records
-pub sound-as-before : (u : Mux) → unsound u ≡ unsoundBy rowsWas u
-sound-as-before = same-sound rowsWas same-pass
+-- row 6 refuses the same records of that kind
+pub sound-as-before : (u : Mux) → u .setting .kind ≡ Eds8 → unsound u ≡ unsoundBy rowsWas u
+sound-as-before u k = same-sound rowsWas u (same-pass (u .setting) k)
 
--- so every call that is no setup is refused as it was
-pub calls-as-before : (g : Given) → g .setting ≡ none → refusal g ≡ firstOf (callRowsBy rowsWas g)
-calls-as-before = same-calls rowsWas same-pass
+-- so every call on such a record, which is no setup, is refused as it was
+pub calls-as-before : (g : Given) → g .setting ≡ none → OfEds8 g → refusal g ≡ firstOf (callRowsBy rowsWas g)
+calls-as-before g e k = same-calls rowsWas g e (λ u f. same-pass (u .setting) (k u f))

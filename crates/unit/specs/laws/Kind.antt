@@ -1,10 +1,9 @@
 -- The kind of unit in a setting and in a record (document 02, K6): setup keeps it.
 --   ofKind             a setting with another kind, all else the same
---   kind-unread        no setup's number depends on the kind
 --   setup-kind         a setup that is not refused makes a record of the kind that it was given
 --   refused-kind       a refused one gives the record of zeros, which is an EDS-8's
 --   overfull           every call on a record with more than 40 entries is refused with 6, of either kind
--- Not here: that no other call changes it, in calls, laws/Set; what a kind does, in interrupt.
+-- Not here: the one row that asks it, in Location; that no other call changes it, in calls, laws/Set; what a kind does, in interrupt.
 -- Assumes nothing.
 use mathlib.Core.Path.{_≡_, refl, ap}
 use mathlib.Core.Bool.{Bool, true, false, not, _||_}
@@ -20,18 +19,13 @@ use Rattle.interrupt.specs.Interrupt as Interrupt
 use Rattle.unit.specs.declared.mux.Setting.{Setting}
 use Rattle.unit.specs.declared.mux.Mux.{Mux}
 use Rattle.unit.specs.declared.reply.Replied.{Replied}
-use Rattle.unit.specs.Refusals.{UNSOUND, sizeRows, baseRows, areaRows, settingRows, unsound, Given, rowsOf, callRows, tableOf, refusal, ofSetup}
+use Rattle.unit.specs.Refusals.{UNSOUND, settingRows, unsound, Given, rowsOf, callRows, tableOf, refusal, ofSetup}
 use Rattle.unit.specs.Setup.{setup}
 use Rattle.unit.specs.laws.Replies.{setup-accepted, setup-refused}
 
 -- the setting with another kind
 abbrev pub ofKind : Kind → Setting → Setting
 ofKind k s = record { kind = k; block = s .block; ports = s .ports; base = s .base; special = s .special }
-
--- its setup has the same number
-pub kind-unread : (k : Kind) (s : Setting) → refusal (ofSetup (ofKind k s)) ≡ refusal (ofSetup s)
-unfolding refusal tableOf rowsOf callRows settingRows sizeRows baseRows areaRows asked
-kind-unread k s = refl
 
 -- the record has the kind that setup was given
 pub setup-kind : (s : Setting) → refusal (ofSetup s) ≡ 0 → setup s .mux .setting .kind ≡ s .kind

@@ -3,6 +3,7 @@
 --   never-five                   no call is refused with 5 (document 02, K10)
 --   setup-order, call-order      the numbers in the order in which they are asked
 --   setup-refusal, by-size ..    setup's number, part by part
+--   setting-unsound              row 6 has no list of its own: a record is unsound whose setting setup would refuse, whatever the row
 --   inspection-refusal, sweep-refusal   a call's number is that of the smaller call, and then its own rows
 -- Not here: the table itself, in specs/Refusals; what refusal 0 says in numbers, in Sound.
 -- Assumes nothing.
@@ -14,6 +15,7 @@ use mathlib.Core.Option.{Option, some, none}
 use Prim.Native.Nat.{ℕ}
 use lib.Dec.{eqb, ltb}
 use lib.ListN.{length}
+use borrow.Author.Tests.{ne-eqb}
 use Rattle.ground.specs.Choose.{pick, asked, Row, firstOf}
 use Rattle.ground.specs.laws.Rows.{Gives, first-gives, absent, never, first-then, first-stops}
 use Rattle.unit.specs.declared.mux.Setting.{Setting}
@@ -37,7 +39,7 @@ never-five g = never (tableOf g) 5 (nowhere (g .setting))
     nowhere (some s) = refl
 
 -- their order: setup's
-pub setup-order : (s : Setting) → map (λ (r : Row). r .number) (settingRows s) ≡ 1 ∷ 2 ∷ 3 ∷ 11 ∷ 4 ∷ []
+pub setup-order : (s : Setting) → map (λ (r : Row). r .number) (settingRows s) ≡ 1 ∷ 2 ∷ 3 ∷ 11 ∷ 12 ∷ 4 ∷ []
 unfolding settingRows sizeRows baseRows areaRows
 setup-order s = refl
 
@@ -68,6 +70,13 @@ by-base s e h = after-size s e ∙ first-stops (baseRows s) (areaRows s) h
 pub by-area : (s : Setting) → firstOf (sizeRows s) ≡ 0 → firstOf (baseRows s) ≡ 0 → refusal (ofSetup s) ≡ firstOf (areaRows s)
 unfolding baseRows
 by-area s e f = after-size s e ∙ first-then (baseRows s) (areaRows s) refl f
+
+-- ---- setup's number and row 6
+
+-- a record whose setting setup would refuse
+pub setting-unsound : (u : Mux) → (refusal (ofSetup (u .setting)) ≡ 0 → ⊥) → unsound u ≡ true
+unfolding unsound
+setting-unsound u n = rw (← setup-refusal (u .setting), ne-eqb (refusal (ofSetup (u .setting))) 0 n)
 
 -- ---- a call's number is that of the smaller call, and then its own rows
 

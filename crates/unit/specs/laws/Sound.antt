@@ -23,12 +23,14 @@ use lib.ListN.{length}
 use borrow.Author.Tests.{ltb-false, leb-false, eqb-true, eqb-false, not-false, le-ltb, lt-leb, eq-eqb, ne-eqb}
 use Rattle.ground.specs.Choose.{asked, firstOf}
 use Rattle.ground.specs.laws.Rows.{or-false, or-true, both-false, first-zero, first-both}
+use Rattle.interrupt.specs.declared.Kind.{Kind}
+use Rattle.interrupt.specs.declared.Kind.the-variants.{Eds8, MightyMux}
 use Rattle.interrupt.specs.Interrupt as Interrupt
 use Rattle.interrupt.specs.laws.Interrupt as Irq
 use Rattle.unit.specs.declared.mux.Setting.{Setting}
 use Rattle.unit.specs.declared.mux.Mux.{Mux}
 use Rattle.unit.specs.Record.{fresh, noMux, blockAt}
-use Rattle.unit.specs.Refusals.{WORDS, MOST-PORTS, MOST-INSPECTIONS, badBlock, badPorts, misaligned, tooHigh, crosses, sizeRows, baseRows, areaRows, settingRows, unsound, rowsOf, callRows, tableOf, refusal, ofSetup, ofUnit, ofPort, ofInspection, ofSweep}
+use Rattle.unit.specs.Refusals.{WORDS, MOST-PORTS, MOST-INSPECTIONS, AREA-STEP, badBlock, badPorts, misaligned, tooHigh, badLocation, crosses, sizeRows, baseRows, areaRows, settingRows, unsound, rowsOf, callRows, tableOf, refusal, ofSetup, ofUnit, ofPort, ofInspection, ofSweep}
 use Rattle.unit.specs.Sound.{IsBlock, eight, sixteen, thirty-two, SizeFits, BaseFits, AreaFits, Fits, Sound}
 use Rattle.unit.specs.laws.Refusals.{setup-refusal}
 
@@ -73,6 +75,12 @@ pub low-base : (a : ℕ) → (tooHigh a ≡ false) ↔ (a ≤ 32767)
 unfolding tooHigh
 low-base a = (λ e. ltb-false 32767 a e, λ h. le-ltb 32767 a h)
 
+-- row 12 does not apply to a Mighty Mux's base that is a multiple of octal 400, to no other of that kind, and to an EDS-8's never
+pub good-location : (k : Kind) (a : ℕ) → (badLocation k a ≡ false) ↔ (k ≡ MightyMux → a % AREA-STEP ≡ 0)
+unfolding badLocation
+good-location Eds8 a = (λ _ e. cc, λ _. refl)
+good-location MightyMux a = (λ e _. eqb-true _ _ (not-false _ e), λ h. ap not (eq-eqb _ _ (h refl)))
+
 -- row 4 does not apply where the area crosses no multiple of 128b, and nowhere else
 pub good-area : (b n a : ℕ) → (crosses b n a ≡ false) ↔ (a / (128 * b) ≡ (a + n * b - 1) / (128 * b))
 unfolding crosses
@@ -94,8 +102,9 @@ pub base-fits : (s : Setting) → (firstOf (baseRows s) ≡ 0) ↔ BaseFits s
 unfolding baseRows
 base-fits s =
     let z = first-zero (baseRows s) refl in (
-      λ e. let p = z .0 e in record { aligned = good-base _ _ .0 (p .0); low = low-base _ .0 (p .1 .0) },
-      λ h. z .1 (good-base _ _ .1 (h .aligned), (low-base _ .1 (h .low), tt)),
+      λ e. let p = z .0 e in
+          record { aligned = good-base _ _ .0 (p .0); low = low-base _ .0 (p .1 .0); located = good-location _ _ .0 (p .1 .1 .0) },
+      λ h. z .1 (good-base _ _ .1 (h .aligned), (low-base _ .1 (h .low), (good-location _ _ .1 (h .located), tt))),
     )
 
 pub area-fits : (s : Setting) → (firstOf (areaRows s) ≡ 0) ↔ AreaFits s

@@ -34,7 +34,7 @@ pub fits : (kind : Kind) (codes : List Bool) → Fits (three kind codes)
 fits kind codes =
     record {
       size = record { block = eight refl; some-port = omega arith; few-ports = omega arith };
-      base = record { aligned = refl; low = omega arith };
+      base = record { aligned = refl; low = omega arith; located = λ _. refl };
       area = record { one = refl };
     }
 

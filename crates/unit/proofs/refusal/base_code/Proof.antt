@@ -18,6 +18,10 @@ returns-3 : tie.Need-returns-3
 unfolding baseRows firstOf
 returns-3 c = search cases
 
+returns-4 : tie.Need-returns-4
+unfolding baseRows firstOf
+returns-4 c = search cases
+
 pub base-code-spec : {M : Type 1} → statement M
 base-code-spec =
-    tie.close (tie.spec (λ c κs. search needs) returns (λ c κs. search needs) returns-2 returns-3)
+    tie.close (tie.spec (λ c κs. search needs) returns (λ c κs. search needs) returns-2 (λ c κs. search needs) returns-3 returns-4)
