@@ -1,4 +1,4 @@
--- What a caretaker is answered (document 02, K1; D48).
+-- What a caretaker is answered (document 02, K1 and K7; D48, D62).
 --   answerTo         the answer to a line
 --   taken            the line after one byte of what is typed: the end of a line begins the next
 --   readOn, shut     what is kept after some bytes, and where there is no more to read
@@ -18,7 +18,7 @@ use Rattle.settings.specs.declared.Reader.{Reader}
 use Rattle.settings.specs.Typed.{blank, typed, whole, settingOf}
 use Rattle.settings.specs.Advice.{advised}
 
--- whether the line was three numbers; then setup's number for them, and what to type instead
+-- whether the line was three numbers, with or without the m; then setup's number for them, and what to type instead
 abbrev pub answerTo : Line → Answer
 answerTo t = record { whole = whole t; code = refusal (ofSetup (settingOf t)); instead = advised (settingOf t) }
 

@@ -3,9 +3,7 @@ use crate::advice::advised;
 use crate::typed::Line;
 use crate::typed::setting_of;
 use crate::typed::whole;
-use driver::say::and;
-use driver::say::nothing;
-use driver::say::print;
+use interrupt::Kind;
 use io::print_decimal;
 use io::write_all;
 use unit::mux::Setting;
@@ -13,7 +11,7 @@ use unit::refusal::setup_code;
 ghost use mathlib.Core.Path.{_≡_};
 ghost use Rattle.settings.specs.Answer.{answerTo};
 
-// Whether the line was three numbers; then setup's number for them, and what to type instead.
+// Whether the line was three numbers, with or without the m; then setup's number for them, and what to type instead.
 pub struct Answer {
     pub whole: bool,
     pub code: u8,
@@ -47,6 +45,12 @@ fn say_sentence(code: u8) {
         11 => {
             write_all(1, b"the base is above 32767, the last word of the memory\n");
         }
+        12 => {
+            write_all(
+                1,
+                b"the base is not a multiple of 256, which is octal 400, as a Mighty Mux needs\n",
+            );
+        }
         4 => {
             write_all(
                 1,
@@ -59,6 +63,24 @@ fn say_sentence(code: u8) {
     }
 }
 
+// A setting, as a caretaker types it.
+fn say_setting(s: Setting) {
+    print_decimal(1, s.block as u64);
+    write_all(1, b" ");
+    print_decimal(1, s.ports as u64);
+    write_all(1, b" ");
+    print_decimal(1, s.base as u64);
+    let k = s.kind;
+    match k {
+        Kind::Eds8 => {
+            write_all(1, b"\n");
+        }
+        Kind::MightyMux => {
+            write_all(1, b" m\n");
+        }
+    }
+}
+
 // A refusal: its number, its sentence, and what to type instead.
 fn say_refused(code: u8, instead: Setting) {
     write_all(1, b"refused, ");
@@ -66,8 +88,7 @@ fn say_refused(code: u8, instead: Setting) {
     write_all(1, b": ");
     say_sentence(code);
     write_all(1, b"type instead: ");
-    let sizes = and(and(nothing(), instead.block as u64), instead.ports as u64);
-    print(and(sizes, instead.base as u64));
+    say_setting(instead);
 }
 
 // The answer, printed.
@@ -75,7 +96,7 @@ pub fn say(a: Answer) {
     if !a.whole {
         write_all(
             1,
-            b"please type three decimal numbers below 4294967296: block size, ports, base\n",
+            b"please type three decimal numbers below 4294967296: block size, ports, base; then m for a Mighty Mux\n",
         );
         return;
     }

@@ -1,19 +1,20 @@
-// The line that a caretaker types: three decimal numbers with spaces between them, read byte by byte.
+// The line that a caretaker types: three decimal numbers with spaces between them, and an m after them for a Mighty Mux, read byte by byte.
 use driver::read::appended;
 use driver::read::is_digit;
 use interrupt::Kind;
 use unit::mux::Setting;
 use words::special::set_1974;
 ghost use mathlib.Core.Path.{_≡_};
-ghost use Rattle.settings.specs.Typed.{blank, begun, extended, digitTyped, isSpace, spaced, typed, started, whole, settingOf};
+ghost use Rattle.settings.specs.Typed.{blank, begun, extended, digitTyped, isSpace, spaced, lettered, typed, started, whole, kindOf, settingOf};
 
-// What is read of a line so far: its last three numbers, how many it has up to three, whether the last may go on, and whether anything on it is wrong.
+// What is read of a line so far: its last three numbers, how many it has up to three, whether the last may go on, whether the m is there, and whether anything on it is wrong.
 pub struct Line {
     pub block: u32,
     pub ports: u32,
     pub base: u32,
     pub count: u32,
     pub inside: bool,
+    pub mighty: bool,
     pub wrong: bool,
 }
 
@@ -27,6 +28,7 @@ pub fn blank() -> Line
         base: 0,
         count: 0,
         inside: false,
+        mighty: false,
         wrong: false,
     }
 }
@@ -86,12 +88,26 @@ fn spaced(t: Line, b: u8) -> Line
     r
 }
 
+// The letter m, which ends the third number; anywhere else, or once more, it is wrong.
+fn lettered(t: Line) -> Line
+    ensures { λ r. ⌜ r ≡ lettered t ⌝ }
+{
+    let mut r = t;
+    r.inside = false;
+    r.mighty = true;
+    r.wrong = t.wrong | t.mighty | (t.count != 3);
+    r
+}
+
 // The line with one more byte.
 pub fn typed(t: Line, b: u8) -> Line
     ensures { λ r. ⌜ r ≡ typed t b ⌝ }
 {
     if is_digit(b) {
         return digit_typed(t, b);
+    }
+    if b == b'm' {
+        return lettered(t);
     }
     spaced(t, b)
 }
@@ -103,19 +119,29 @@ pub fn started(t: Line) -> bool
     t.wrong | (t.count != 0)
 }
 
-// Whether the line is three numbers and nothing else.
+// Whether the line is three numbers, with or without the m, and nothing else.
 pub fn whole(t: Line) -> bool
     ensures { λ r. ⌜ r ≡ whole t ⌝ }
 {
     !t.wrong & (t.count == 3)
 }
 
-// The setting that the line asks for: an EDS-8 of the 1974 set, for no refusal looks at a kind or a set.
+// The kind of unit that the line asks for.
+fn kind_of(mighty: bool) -> Kind
+    ensures { λ r. ⌜ r ≡ kindOf mighty ⌝ }
+{
+    if mighty {
+        return Kind::MightyMux;
+    }
+    Kind::Eds8
+}
+
+// The setting that the line asks for; its set is the 1974 set, for no refusal looks at a set.
 pub fn setting_of(t: Line) -> Setting
     ensures { λ r. ⌜ r ≡ settingOf t ⌝ }
 {
     Setting {
-        kind: Kind::Eds8,
+        kind: kind_of(t.mighty),
         block: t.block,
         ports: t.ports,
         base: t.base,

@@ -1,16 +1,19 @@
 -- What to type instead of a setting that setup refuses.
 --   sized                          the mended sizes pass
+--   step-some                      the words from one base to the next are some
 --   advised-taken                  setup takes what is advised
 --   advised-below, advised-last    its base is at or below the one typed, and no higher one there would do
 --   advised-block, advised-ports   a size that passes is kept, whatever else is wrong
 --   advised-kept                   what setup takes is advised as it stands
 --   any-set                        setup's number and what is advised are the same, whatever set of special codes a school chooses (document 02, K5)
---   any-kind                       the same of the kind of unit (document 02, K6)
+--   advisedWas, eds8-advised       what was advised before K7, for this comparison alone: of an EDS-8 nothing changed
+--   advised-kind                   the kind is kept
 -- Not here: what is advised, in specs/Advice.
 -- Assumes nothing.
 use mathlib.Core.Path.{_≡_, refl, ap, _∙_}
 use mathlib.Core.Bool.{Bool, true, false}
 use mathlib.Core.List.{List}
+use mathlib.Core.Logic.{_↔_}
 use Prim.Native.Nat.{ℕ, _+_, _-_, _*_, _/_, _%_, _<_, _≤_}
 use native.Mathlib.Nat.{div-add-mod'}
 use native.Mathlib.Omega.{arith}
@@ -18,13 +21,13 @@ use lib.Dec.{eqb, ltb}
 use borrow.Author.Tests.{eqb-false, ltb-true, ltb-false, ne-eqb, le-ltb}
 use Rattle.ground.specs.Choose.{pick}
 use Rattle.interrupt.specs.declared.Kind.{Kind}
+use Rattle.interrupt.specs.declared.Kind.the-variants.{Eds8, MightyMux}
 use Rattle.unit.specs.declared.mux.Setting.{Setting}
 use Rattle.unit.specs.Refusals.{MOST-PORTS, tooHigh, refusal, ofSetup}
 use Rattle.unit.specs.Sound.{IsBlock, eight, sixteen, thirty-two, SizeFits, BaseFits, AreaFits}
 use Rattle.unit.specs.laws.Sound.{by-block, setup-iff}
-use Rattle.unit.specs.laws.Kind.{ofKind, kind-unread}
 use Rattle.unit.specs.laws.Set.{choosing, refusal-unread}
-use Rattle.settings.specs.Advice.{blockMended, portsMended, sizesMended, inMemory, multipleBelow, lastBase, baseMended, withBase, lowered, advised}
+use Rattle.settings.specs.Advice.{blockMended, portsMended, sizesMended, inMemory, multipleBelow, stepOf, lastBase, baseMended, withBase, lowered, advised}
 
 -- ---- the sizes
 
@@ -98,59 +101,110 @@ sized-at o b n a = record { kind = o .kind; block = b; ports = n; base = a; spec
 abbrev Area : Setting → ℕ → ℕ → ℕ → Type 0
 Area o b n a = BaseFits (sized-at o b n a) × AreaFits (sized-at o b n a)
 
--- so they do of a multiple of 8 blocks, if the area lies in a stretch of 128 blocks that begins in the memory
-abbrev Stretch : Setting → ℕ → ℕ → ℕ → ℕ → Type 0
-Stretch o n x k b =
-    0 < n → x % (8 * b) ≡ 0 → k * (128 * b) ≤ x → x + n * b ≤ k * (128 * b) + 128 * b → k * (128 * b) ≤ 32767 → Area o b n x
+-- the words from one base of a kind of unit to the next; what holds of each of these beside its block size holds of any
+by-step : (F : ℕ → ℕ → Type 0) → F 64 8 → F 128 16 → F 256 32 → F 256 8 → F 256 16 → (k : Kind) (b : ℕ) → IsBlock b → F (stepOf k b) b
+unfolding stepOf
+by-step F x y z v w Eds8 = by-block (λ b. F (8 * b) b) x y z
+by-step F x y z v w MightyMux = by-block (λ b. F 256 b) v w z
 
-stretch : (o : Setting) (n x k b : ℕ) → IsBlock b → Stretch o n x k b
-stretch o n x k =
-    by-block (Stretch o n x k)
-    (λ p m f g l. (record { aligned = m; low = omega arith }, record { one = omega arith }))
-    (λ p m f g l. (record { aligned = m; low = omega arith }, record { one = omega arith }))
-    (λ p m f g l. (record { aligned = m; low = omega arith }, record { one = omega arith }))
+-- a step has some words
+pub step-some : (k : Kind) (b : ℕ) → IsBlock b → 0 < stepOf k b
+step-some = by-step (λ m b. 0 < m) (omega arith) (omega arith) (omega arith) (omega arith) (omega arith)
 
--- the multiple of 8 blocks at or below a word is not below the word's stretch
-abbrev Near : ℕ → ℕ → Type 0
-Near a b = (multipleBelow (8 * b) a % (8 * b) ≡ 0) × (multipleBelow (128 * b) a ≤ multipleBelow (8 * b) a)
+-- a multiple of the step is a base that rows 3 and 12 let pass, and no other is
+abbrev Steps : Kind → ℕ → ℕ → Type 0
+Steps k a b = (a % (8 * b) ≡ 0) × (k ≡ MightyMux → a % 256 ≡ 0)
 
-near : (a b : ℕ) → IsBlock b → Near a b
-near a = by-block (Near a) (omega arith, omega arith) (omega arith, omega arith) (omega arith, omega arith)
+on-step : (k : Kind) (a b : ℕ) → IsBlock b → (a % stepOf k b ≡ 0) ↔ Steps k a b
+unfolding stepOf
+on-step Eds8 a b i = (λ e. (e, λ h. cc), λ p. p .0)
+on-step MightyMux a b i = (λ e. (aligned b i e, λ _. e), λ p. p .1 refl)
+  where
+    aligned : (b : ℕ) → IsBlock b → a % 256 ≡ 0 → a % (8 * b) ≡ 0
+    aligned = by-block (λ b. a % 256 ≡ 0 → a % (8 * b) ≡ 0) (λ e. omega arith) (λ e. omega arith) (λ e. omega arith)
+
+-- a stretch of 128 blocks that begins in the memory: an area in it begins in the memory and does not cross
+abbrev Within : ℕ → ℕ → ℕ → ℕ → Type 0
+Within n x k b =
+    0 < n → k * (128 * b) ≤ x → x + n * b ≤ k * (128 * b) + 128 * b → k * (128 * b) ≤ 32767 → (x ≤ 32767) × (x / (128 * b) ≡ (x + n * b - 1) / (128 * b))
+
+within : (n x k b : ℕ) → IsBlock b → Within n x k b
+within n x k =
+    by-block (Within n x k)
+    (λ p f g l. (omega arith, omega arith))
+    (λ p f g l. (omega arith, omega arith))
+    (λ p f g l. (omega arith, omega arith))
+
+-- so the rows pass of a multiple of the step there
+stretch : (o : Setting) (n x k b : ℕ) → IsBlock b → 0 < n → x % stepOf (o .kind) b ≡ 0 → k * (128 * b) ≤ x → x + n * b ≤ k * (128 * b) + 128 * b → k * (128 * b) ≤ 32767 → Area o b n x
+stretch o n x k b i p m f g l =
+    let w = within n x k b i p f g l in
+    let s = on-step (o .kind) x b i .0 m in
+    (record { aligned = s .0; low = w .0; located = s .1 }, record { one = w .1 })
+
+-- the multiple of the step at or below a word is not below the word's stretch
+abbrev Near : ℕ → ℕ → ℕ → Type 0
+Near a m b = (multipleBelow m a % m ≡ 0) × (multipleBelow (128 * b) a ≤ multipleBelow m a)
+
+near : (a : ℕ) (k : Kind) (b : ℕ) → IsBlock b → Near a (stepOf k b) b
+near a = by-step (Near a) (omega arith, omega arith) (omega arith, omega arith) (omega arith, omega arith) (omega arith, omega arith) (omega arith, omega arith)
 
 -- the last base for n ports is such a multiple, and its area ends with the stretch or before
-abbrev Last : ℕ → ℕ → ℕ → Type 0
-Last n a b =
-    n ≤ 128 → (lastBase b n a % (8 * b) ≡ 0) × (lastBase b n a + n * b ≤ multipleBelow (128 * b) a + 128 * b)
+abbrev Last : ℕ → ℕ → ℕ → ℕ → Type 0
+Last n a m b =
+    n ≤ 128 → (lastBase m b n a % m ≡ 0) × (lastBase m b n a + n * b ≤ multipleBelow (128 * b) a + 128 * b)
 
-last : (n a b : ℕ) → IsBlock b → Last n a b
-last n a = by-block (Last n a) (λ q. (omega arith, omega arith)) (λ q. (omega arith, omega arith)) (λ q. (omega arith, omega arith))
+last : (n a : ℕ) (k : Kind) (b : ℕ) → IsBlock b → Last n a (stepOf k b) b
+last n a = by-step (Last n a) (λ q. (omega arith, omega arith)) (λ q. (omega arith, omega arith)) (λ q. (omega arith, omega arith)) (λ q. (omega arith, omega arith)) (λ q. (omega arith, omega arith))
 
 -- so they pass of the first where it is below the second
-near-area : (o : Setting) (b n a : ℕ) → IsBlock b → 0 < n → n ≤ 128 → a ≤ 32767 → multipleBelow (8 * b) a < lastBase b n a → Area o b n (multipleBelow (8 * b) a)
+near-area : (o : Setting) (b n a : ℕ) → IsBlock b → 0 < n → n ≤ 128 → a ≤ 32767 → multipleBelow (stepOf (o .kind) b) a < lastBase (stepOf (o .kind) b) b n a → Area o b n (multipleBelow (stepOf (o .kind) b) a)
 near-area o b n a i p q l h =
     let d = div-add-mod' a (128 * b) in
-    let m = near a b i in
-    let r = last n a b i q in
-    stretch o n (multipleBelow (8 * b) a) (a / (128 * b)) b i p (m .0) (omega arith) (omega arith) (omega arith)
+    let m = near a (o .kind) b i in
+    let r = last n a (o .kind) b i q in
+    stretch o n (multipleBelow (stepOf (o .kind) b) a) (a / (128 * b)) b i p (m .0) (omega arith) (omega arith) (omega arith)
 
 -- and always of the second
-last-area : (o : Setting) (b n a : ℕ) → IsBlock b → 0 < n → n ≤ 128 → a ≤ 32767 → Area o b n (lastBase b n a)
+last-area : (o : Setting) (b n a : ℕ) → IsBlock b → 0 < n → n ≤ 128 → a ≤ 32767 → Area o b n (lastBase (stepOf (o .kind) b) b n a)
 last-area o b n a i p q l =
     let d = div-add-mod' a (128 * b) in
-    let r = last n a b i q in
-    stretch o n (lastBase b n a) (a / (128 * b)) b i p (r .0) (omega arith) (omega arith) (omega arith)
+    let r = last n a (o .kind) b i q in
+    stretch o n (lastBase (stepOf (o .kind) b) b n a) (a / (128 * b)) b i p (r .0) (omega arith) (omega arith) (omega arith)
 
--- no base at or below a of which they pass is above either
-abbrev NotAbove : ℕ → ℕ → ℕ → ℕ → Type 0
-NotAbove n a x b =
-    0 < n → n ≤ 128 → x ≤ a → x % (8 * b) ≡ 0 → x / (128 * b) ≡ (x + n * b - 1) / (128 * b) → (x ≤ multipleBelow (8 * b) a) × (x ≤ lastBase b n a)
+-- a multiple of the step at or below c is at or below the last; its place in its stretch of 128 blocks is one, too
+abbrev Under : ℕ → ℕ → ℕ → ℕ → Type 0
+Under x c m b = x % m ≡ 0 → (x ≤ c → x ≤ multipleBelow m c) × (x % (128 * b) % m ≡ 0)
 
-not-above : (n a x b : ℕ) → IsBlock b → NotAbove n a x b
-not-above n a x =
-    by-block (NotAbove n a x)
-    (λ p q l m o. (omega arith, omega arith))
-    (λ p q l m o. (omega arith, omega arith))
-    (λ p q l m o. (omega arith, omega arith))
+under : (x c : ℕ) (k : Kind) (b : ℕ) → IsBlock b → Under x c (stepOf k b) b
+under x c =
+    by-step (Under x c)
+    (λ e. (λ l. omega arith, omega arith))
+    (λ e. (λ l. omega arith, omega arith))
+    (λ e. (λ l. omega arith, omega arith))
+    (λ e. (λ l. omega arith, omega arith))
+    (λ e. (λ l. omega arith, omega arith))
+
+-- an area that does not cross leaves room for itself in its stretch; the stretch of a word at or below a begins at or below a's
+abbrev Room : ℕ → ℕ → ℕ → ℕ → Type 0
+Room n a x b =
+    0 < n → n ≤ 128 → x ≤ a → x / (128 * b) ≡ (x + n * b - 1) / (128 * b) → (x % (128 * b) ≤ (128 - n) * b) × (multipleBelow (128 * b) x ≤ multipleBelow (128 * b) a)
+
+room : (n a x b : ℕ) → IsBlock b → Room n a x b
+room n a x =
+    by-block (Room n a x)
+    (λ p q l o. (omega arith, omega arith))
+    (λ p q l o. (omega arith, omega arith))
+    (λ p q l o. (omega arith, omega arith))
+
+-- so no base at or below a of which they pass is above either
+not-above : (n a x : ℕ) (k : Kind) (b : ℕ) → IsBlock b → 0 < n → n ≤ 128 → x ≤ a → x % stepOf k b ≡ 0 → x / (128 * b) ≡ (x + n * b - 1) / (128 * b) → (x ≤ multipleBelow (stepOf k b) a) × (x ≤ lastBase (stepOf k b) b n a)
+not-above n a x k b i p q l m o =
+    let d = div-add-mod' x (128 * b) in
+    let u = under x a k b i m in
+    let r = room n a x b i p q l o in
+    let v = under (x % (128 * b)) ((128 - n) * b) k b i (u .1) .0 (r .0) in
+    (u .0 l, omega arith)
 
 -- what is said of the lower of the two: they pass, it is at or below the base typed, and no higher one passes there
 record Mended (o : Setting) (b n a x : ℕ) : Type 0 where
@@ -158,28 +212,32 @@ record Mended (o : Setting) (b n a x : ℕ) : Type 0 where
   below : x ≤ a
   last : (y : ℕ) → y ≤ a → Area o b n y → y ≤ x
 
-mended : (o : Setting) (b n a : ℕ) → IsBlock b → 0 < n → n ≤ 128 → Mended o b n a (baseMended b n a)
+mended : (o : Setting) (b n a : ℕ) → IsBlock b → 0 < n → n ≤ 128 → Mended o b n a (baseMended (stepOf (o .kind) b) b n a)
 unfolding baseMended pick
 mended o b n a i p q = go (ltb lower higher) refl
   where
     lower : ℕ
-    lower = multipleBelow (8 * b) (inMemory a)
+    lower = multipleBelow (stepOf (o .kind) b) (inMemory a)
 
     higher : ℕ
-    higher = lastBase b n (inMemory a)
+    higher = lastBase (stepOf (o .kind) b) b n (inMemory a)
+
+    neither : (y : ℕ) → y ≤ a → Area o b n y → (y ≤ lower) × (y ≤ higher)
+    neither y h r =
+        not-above n (inMemory a) y (o .kind) b i p q (last-in-memory a y h (r .0 .low)) (on-step (o .kind) y b i .1 (r .0 .aligned, r .0 .located)) (r .1 .one)
 
     go : (t : Bool) → ltb lower higher ≡ t → Mended o b n a (pick t lower higher)
     go true e =
         record {
           area = near-area o b n (inMemory a) i p q (in-memory a .0) (ltb-true lower higher e);
           below = omega (arith, in-memory a .1);
-          last = λ y h r. not-above n (inMemory a) y b i p q (last-in-memory a y h (r .0 .low)) (r .0 .aligned) (r .1 .one) .0;
+          last = λ y h r. neither y h r .0;
         }
     go false e =
         record {
           area = last-area o b n (inMemory a) i p q (in-memory a .0);
           below = omega (arith, ltb-false lower higher e, in-memory a .1);
-          last = λ y h r. not-above n (inMemory a) y b i p q (last-in-memory a y h (r .0 .low)) (r .0 .aligned) (r .1 .one) .1;
+          last = λ y h r. neither y h r .1;
         }
 
 -- ---- what is advised
@@ -222,7 +280,7 @@ unfolding advised
 advised-kept s e =
     let f = setup-iff s .0 e in
     let m = mended s (s .block) (s .ports) (s .base) (f .size .block) (f .size .some-port) (f .size .few-ports) in
-    let b : baseMended (s .block) (s .ports) (s .base) ≡ s .base = omega (arith, m .below, m .last (s .base) (omega arith) (f .base, f .area)) in
+    let b : baseMended (stepOf (s .kind) (s .block)) (s .block) (s .ports) (s .base) ≡ s .base = omega (arith, m .below, m .last (s .base) (omega arith) (f .base, f .area)) in
     ap lowered (sizes-kept s (f .size)) ∙ ap (λ (a : ℕ). withBase s a) b
 
 -- a set is neither refused nor changed
@@ -230,7 +288,34 @@ pub any-set : (codes : List Bool) (s : Setting) → (refusal (ofSetup (choosing 
 unfolding advised sizesMended
 any-set codes s = (refusal-unread codes codes (ofSetup s), refl)
 
--- nor is a kind
-pub any-kind : (k : Kind) (s : Setting) → (refusal (ofSetup (ofKind k s)) ≡ refusal (ofSetup s)) × (advised (ofKind k s) ≡ ofKind k (advised s))
+-- a kind is kept
+pub advised-kind : (s : Setting) → advised s .kind ≡ s .kind
 unfolding advised sizesMended
-any-kind k s = (kind-unread k s, refl)
+advised-kind s = refl
+
+-- ---- an EDS-8's advice as it was
+
+-- the last base for n ports
+abbrev lastBaseWas : ℕ → ℕ → ℕ → ℕ
+lastBaseWas b n a = multipleBelow (128 * b) a + (128 - n) / 8 * (8 * b)
+
+-- and what was advised
+unfoldable pub advisedWas : Setting → Setting
+advisedWas s = withBase (sizesMended s) (mendedWas (sizesMended s .block) (sizesMended s .ports) (inMemory (s .base)))
+  where
+    mendedWas : ℕ → ℕ → ℕ → ℕ
+    mendedWas b n a = pick (ltb (multipleBelow (8 * b) a) (lastBaseWas b n a)) (multipleBelow (8 * b) a) (lastBaseWas b n a)
+
+-- the last base is the same
+abbrev SameLast : ℕ → ℕ → ℕ → Type 0
+SameLast n a b = n ≤ 128 → lastBase (8 * b) b n a ≡ lastBaseWas b n a
+
+same-last : (n a b : ℕ) → IsBlock b → SameLast n a b
+same-last n a = by-block (SameLast n a) (λ q. omega arith) (λ q. omega arith) (λ q. omega arith)
+
+-- so nothing that an EDS-8's caretaker is told changed
+pub eds8-advised : (s : Setting) → s .kind ≡ Eds8 → advised s ≡ advisedWas s
+unfolding advised advisedWas sizesMended baseMended stepOf
+eds8-advised s k =
+    let f = sized s in
+    rw (k, same-last (portsMended (s .ports)) (inMemory (s .base)) (blockMended (s .block)) (f .block) (f .few-ports))

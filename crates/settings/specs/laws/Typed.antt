@@ -1,5 +1,6 @@
 -- What a line asks for.
---   line-read               a line of three numbers below 2^32, a space between them, is answered by what setup says of exactly those
+--   line-read               a line of three numbers below 2^32, a space between them, is answered by what an EDS-8's setup says of exactly those
+--   line-mighty             with a space and an m after them, by what a Mighty Mux's says
 --   line-anew               what was typed on the lines before leaves no trace
 --   heard-none, heard-on    the line that is left, from one read to the next
 -- Not here: how a line is read, in specs/Typed; a number's digits, in Printed of the crate driver.
@@ -15,7 +16,7 @@ use lib.Dec.{ltb}
 use borrow.Author.Tests.{ne-eqb, lt-ltb, le-ltb}
 use Rattle.ground.specs.Choose.{pick}
 use Rattle.words.specs.Special.{set1974}
-use Rattle.interrupt.specs.declared.Kind.the-variants.{Eds8}
+use Rattle.interrupt.specs.declared.Kind.the-variants.{Eds8, MightyMux}
 use Rattle.unit.specs.declared.mux.Setting.{Setting}
 use Rattle.unit.specs.Refusals.{refusal, ofSetup}
 use Rattle.driver.specs.Text.{isDigit, Turned, came, silent}
@@ -23,13 +24,13 @@ use Rattle.driver.specs.Printed.{numeral, decimal}
 use Rattle.settings.specs.declared.typed.Line.{Line}
 use Rattle.settings.specs.declared.say.Answer.{Answer}
 use Rattle.settings.specs.declared.Reader.{Reader}
-use Rattle.settings.specs.Typed.{blank, begun, extended, digitTyped, spaced, typed}
+use Rattle.settings.specs.Typed.{blank, begun, extended, digitTyped, spaced, typed, kindOf}
 use Rattle.settings.specs.Advice.{advised}
 use Rattle.settings.specs.Answer.{answerTo, taken, readOn, shut, Heard}
 
 -- the line with one more number
 abbrev pub and : Line → ℕ → Line
-and t x = record { block = t .ports; ports = t .base; base = x; count = t .count + 1; inside = true; wrong = t .wrong }
+and t x = record { block = t .ports; ports = t .base; base = x; count = t .count + 1; inside = true; mighty = t .mighty; wrong = t .wrong }
 
 -- the bytes 48 to 57 are digits
 digit : (x : ℕ) → x < 10 → isDigit (48 + x) ≡ true
@@ -50,7 +51,7 @@ next t x y h g =
     let e : (48 + y) % 16 ≡ y = omega arith in
     let m : (x * 10 + y) % 4294967296 ≡ x * 10 + y = omega arith in
     rw (ne-eqb (48 + y) 10 (λ e. omega (arith, e)), digit y h, e, m, le-ltb 4294967295 (x * 10 + y) (omega arith))
-    (ap (λ (w : Bool). record { block = t .ports; ports = t .base; base = x * 10 + y; count = t .count + 1; inside = true; wrong = w }) (or-false (t .wrong)))
+    (ap (λ (w : Bool). record { block = t .ports; ports = t .base; base = x * 10 + y; count = t .count + 1; inside = true; mighty = t .mighty; wrong = w }) (or-false (t .wrong)))
 
 -- a number's digits, where k of them are enough
 number : (k x : ℕ) (t : Line) → 0 < k → x < 10 ^ k → x < 4294967296 → t .inside ≡ false → t .count < 3 → foldl taken t (numeral k x) ≡ and t x
@@ -100,7 +101,18 @@ three b n a h g f =
 
 -- so it is answered by what setup says of exactly those
 pub line-read : (b n a : ℕ) → b < 4294967296 → n < 4294967296 → a < 4294967296 → answerTo (foldl taken blank (spelled b n a)) ≡ told (record { kind = Eds8; block = b; ports = n; base = a; special = set1974 })
+unfolding kindOf pick
 line-read b n a h g f = ap answerTo (three b n a h g f)
+
+-- the bytes of such a line with a space and an m after it
+abbrev pub withM : List ℕ → List ℕ
+withM text = text ++ (32 ∷ 109 ∷ [])
+
+-- it is answered by what setup says of a Mighty Mux with exactly those
+pub line-mighty : (b n a : ℕ) → b < 4294967296 → n < 4294967296 → a < 4294967296 → answerTo (foldl taken blank (withM (spelled b n a))) ≡ told (record { kind = MightyMux; block = b; ports = n; base = a; special = set1974 })
+unfolding taken typed isDigit kindOf pick
+line-mighty b n a h g f =
+    ap answerTo (foldl-append taken blank (spelled b n a) (32 ∷ 109 ∷ []) ∙ ap (λ (t : Line). foldl taken t (32 ∷ 109 ∷ [])) (three b n a h g f))
 
 -- and what was typed before the end of a line leaves no trace on the next
 pub line-anew : (t : Line) (text rest : List ℕ) → foldl taken t (text ++ (10 ∷ rest)) ≡ foldl taken blank rest
