@@ -3,21 +3,22 @@
 --   never-five                   no call is refused with 5 (document 02, K10)
 --   setup-order, call-order      the numbers in the order in which they are asked
 --   setup-refusal, by-size ..    setup's number, part by part
---   setting-unsound              row 6 has no list of its own: a record is unsound whose setting setup would refuse, whatever the row
+--   setting-unsound, setting-passed   row 6 has no list of its own: a record is unsound whose setting setup would refuse, whatever the row; of another the rest is asked
 --   inspection-refusal, sweep-refusal   a call's number is that of the smaller call, and then its own rows
 -- Not here: the table itself, in specs/Refusals; what refusal 0 says in numbers, in Sound.
 -- Assumes nothing.
-use mathlib.Core.Path.{_≡_, refl, _∙_}
-use mathlib.Core.Bool.{Bool, true, false, not}
+use mathlib.Core.Path.{_≡_, refl, sym, ap, _∙_}
+use mathlib.Core.Bool.{Bool, true, false, not, _||_}
 use mathlib.Core.List.{List, [], _∷_, _++_, map}
 use mathlib.Core.Logic.{_↔_}
 use mathlib.Core.Option.{Option, some, none}
 use Prim.Native.Nat.{ℕ}
-use lib.Dec.{eqb, ltb}
+use lib.Dec.{eqb, leb, ltb}
 use lib.ListN.{length}
-use borrow.Author.Tests.{ne-eqb}
+use borrow.Author.Tests.{eq-eqb, ne-eqb}
 use Rattle.ground.specs.Choose.{pick, asked, Row, firstOf}
 use Rattle.ground.specs.laws.Rows.{Gives, first-gives, absent, never, first-then, first-stops}
+use Rattle.interrupt.specs.Interrupt as Interrupt
 use Rattle.unit.specs.declared.mux.Setting.{Setting}
 use Rattle.unit.specs.declared.mux.Mux.{Mux}
 use Rattle.unit.specs.Refusals.{WORDS, MOST-INSPECTIONS, BAD-MEMORY, TOO-MANY, SHORT-LIST, sizeRows, baseRows, areaRows, settingRows, unsound, Given, rowsOf, callRows, tableOf, refusal, ofSetup, ofUnit, ofInspection, ofSweep}
@@ -73,10 +74,18 @@ by-area s e f = after-size s e ∙ first-then (baseRows s) (areaRows s) refl f
 
 -- ---- setup's number and row 6
 
--- a record whose setting setup would refuse
-pub setting-unsound : (u : Mux) → (refusal (ofSetup (u .setting)) ≡ 0 → ⊥) → unsound u ≡ true
+-- the test of row 6, whose first part is whether setup's table gives 0
+by-setting : (u : Mux) (t : Bool) → eqb (firstOf (settingRows (u .setting))) 0 ≡ t → unsound u ≡ (not t || (leb (u .setting .ports) (u .pos) || Interrupt.unsound (u .irq)))
 unfolding unsound
-setting-unsound u n = rw (← setup-refusal (u .setting), ne-eqb (refusal (ofSetup (u .setting))) 0 n)
+by-setting u t e = ap (λ b. not b || (leb (u .setting .ports) (u .pos) || Interrupt.unsound (u .irq))) e
+
+-- a record whose setting setup would refuse is unsound
+pub setting-unsound : (u : Mux) → (refusal (ofSetup (u .setting)) ≡ 0 → ⊥) → unsound u ≡ true
+setting-unsound u n = by-setting u false (ne-eqb _ _ (λ e. n (setup-refusal (u .setting) ∙ e)))
+
+-- of another its position and its interrupt side are asked
+pub setting-passed : (u : Mux) → refusal (ofSetup (u .setting)) ≡ 0 → unsound u ≡ (leb (u .setting .ports) (u .pos) || Interrupt.unsound (u .irq))
+setting-passed u e = by-setting u true (eq-eqb _ _ (sym (setup-refusal (u .setting)) ∙ e))
 
 -- ---- a call's number is that of the smaller call, and then its own rows
 
