@@ -3,7 +3,8 @@
 A mutant is mux2.py with one piece of its text replaced, seldom more. The test fails if a
 mutant prints every line of the fixed set as mux2 does. Those marked `seen` are the
 errors that document 01 has seen other emulators make. Those of K5 must be told apart
-by the session of the sets, those of K6 by the sessions of the stack, the others by the other sessions.
+by the session of the sets, those of K6 by the sessions of the stack, those of K7 by the session
+of the bases of a Mighty Mux, the others by the other sessions.
 
     mutants.py [--quiet]
 """
@@ -14,22 +15,23 @@ import time
 import types
 
 import drive
+import mux2
 import sessions
 
 SOURCE = pathlib.Path(__file__).with_name('mux2.py').read_text()
 
 # The line of mux2.py that holds each row of setup's table, by its number.
 ROWS = {int(line.split(':')[0]): line for line in SOURCE.splitlines(keepends=True)
-        if line.split(':')[0].strip().isdigit() and ': lambda b, ports, base: ' in line}
+        if line.split(':')[0].strip().isdigit() and ': lambda b, ports, base, kind: ' in line}
 
 # Row 11 where row 3, or 2 and 3, do not apply, so that it may stand above them and err in one pair of faults alone.
-NOT_3 = "    11: lambda b, ports, base: b and base % (8 * b) == 0 and base > 32767,\n"
+NOT_3 = "    11: lambda b, ports, base, kind: b and base % (8 * b) == 0 and base > 32767,\n"
 NOT_2_3 = NOT_3.replace("b and", "b and 0 < ports <= 128 and")
 
 # Document 01's row 5, which K10 takes out; the same one word too strict; the start of row 4, to put a further fault into.
-ROW_5 = "    5: lambda b, ports, base: base + ports * b > 32768,\n"
+ROW_5 = "    5: lambda b, ports, base, kind: base + ports * b > 32768,\n"
 STRICT_5 = ROW_5.replace(">", ">=")
-ROW_4 = "    4: lambda b, ports, base: "
+ROW_4 = "    4: lambda b, ports, base, kind: "
 
 # The rule of a buffer's end (02, K2), and where input and output ask it.
 ENDS, INPUT_ENDS, OUTPUT_ENDS = "return pointer + 1 >= end", "self.ends(ibp, lib)", "self.ends(obp, lob)"
@@ -139,16 +141,16 @@ MUTANTS = [
     ('11 asked before 2, after 3', ROWS[2] + ROWS[3] + ROWS[11], NOT_3 + ROWS[2] + ROWS[3]),
     ('11 asked before 1, after 2 and 3',
      ROWS[1] + ROWS[2] + ROWS[3] + ROWS[11], NOT_2_3 + ROWS[1] + ROWS[2] + ROWS[3]),
-    ('11 asked after 4', ROWS[11] + ROWS[4], ROWS[4] + ROWS[11]),
+    ('11 asked after 4', ROWS[11] + ROWS[12] + ROWS[4], ROWS[12] + ROWS[4] + ROWS[11]),
     ('3 for both faults of a base', "base % (8 * b) != 0,", "base % (8 * b) != 0 or base > 32767,"),
     ('11 for both faults of a base', ROWS[3] + ROWS[11],
-     "    11: lambda b, ports, base: base % (8 * b) != 0 or base > 32767,\n    3: lambda b, ports, base: False,\n"),
-    ('11 only above 32768', "base: base > 32767", "base: base > 32768"),
-    ('11 from the last base on', "base: base > 32767", "base: base >= 32768 - 8 * b"),
-    ('11 for a base cut to 16 bits', "base: base > 32767", "base: base % 65536 > 32767"),
-    ('11 for a base taken with a sign', "base: base > 32767", "base: 32767 < base < 2147483648"),
-    ('11 only in blocks of 8', "base: base > 32767", "base: base > 32767 and b == 8"),
-    ('11 not in blocks of 32', "base: base > 32767", "base: base > 32767 and b != 32"),
+     "    11: lambda b, ports, base, kind: base % (8 * b) != 0 or base > 32767,\n    3: lambda b, ports, base, kind: False,\n"),
+    ('11 only above 32768', "kind: base > 32767", "kind: base > 32768"),
+    ('11 from the last base on', "kind: base > 32767", "kind: base >= 32768 - 8 * b"),
+    ('11 for a base cut to 16 bits', "kind: base > 32767", "kind: base % 65536 > 32767"),
+    ('11 for a base taken with a sign', "kind: base > 32767", "kind: 32767 < base < 2147483648"),
+    ('11 only in blocks of 8', "kind: base > 32767", "kind: base > 32767 and b == 8"),
+    ('11 not in blocks of 32', "kind: base > 32767", "kind: base > 32767 and b != 32"),
     ('soundness forgets row 11',
      "        if code:\n            self.hit(f'unsound: setup",
      "        if code and code != 11:\n            self.hit(f'unsound: setup"),
@@ -156,7 +158,7 @@ MUTANTS = [
      "        if code:\n            self.hit(f'unsound: setup",
      "        if code and not (code == 11 and r.base >= 65536):\n            self.hit(f'unsound: setup"),
     ('soundness cuts the base to 15 bits',
-     "self.setup_refusal(r.block, r.ports, r.base)", "self.setup_refusal(r.block, r.ports, r.base % 32768)"),
+     "self.setup_refusal(r.block, r.ports, r.base, r.kind)", "self.setup_refusal(r.block, r.ports, r.base % 32768, r.kind)"),
     ('area may cross', "(base + ports * b - 1) // (128 * b)", "base // (128 * b)"),
     ('area may not reach its end', "(base + ports * b - 1) // (128 * b)",
      "(base + ports * b) // (128 * b)"),
@@ -190,9 +192,9 @@ MUTANTS = [
 
     # The end of the memory (02, K10).
     ('11 left out', ROWS[11], ""),
-    ('4 for a base above 32767', ROWS[11] + ROW_4, ROW_4 + "base > 32767 or "),
-    ('11 by the end of the area', "base: base > 32767", "base: base + ports * b > 32768"),
-    ('11 by the end of the area, one word too strict', "base: base > 32767", "base: base + ports * b > 32767"),
+    ('4 for a base above 32767', ROWS[11] + ROWS[12] + ROW_4, ROWS[12] + ROW_4 + "base > 32767 or "),
+    ('11 by the end of the area', "kind: base > 32767", "kind: base + ports * b > 32768"),
+    ('11 by the end of the area, one word too strict', "kind: base > 32767", "kind: base + ports * b > 32767"),
     ('5 asked, one word too strict', ROWS[4], ROWS[4] + STRICT_5),
     *[(f'5 asked, one word too strict, {where}', ROWS[4], ROWS[4] + STRICT_5.replace("base +", f"{where} and base +"))
       for where in ("b == 8", "b == 16", "b == 32", "ports == 8", "8 < ports < 128", "ports == 128")],
@@ -205,14 +207,14 @@ MUTANTS = [
     ('5 asked before 3', ROWS[3], ROW_5 + ROWS[3]),
     ('5 asked before 2', ROWS[2], ROW_5 + ROWS[2]),
     ('5 asked before 1', ROWS[1], ROW_5 + ROWS[1]),
-    ('5 asked after 4, 11 left out', ROWS[11] + ROWS[4], ROWS[4] + ROW_5),
+    ('5 asked after 4, 11 left out', ROWS[11] + ROWS[12] + ROWS[4], ROWS[12] + ROWS[4] + ROW_5),
     ('11 given as 5', "    11: lambda", "    5: lambda"),
     ('4 given as 5', ROWS[4], ROWS[4].replace("4:", "5:") + ROWS[4]),
     ('area that ends with the memory refused with 4', ROW_4, ROW_4 + "base + ports * b == 32768 or "),
     *[(f'area that ends with the memory refused with 4, b {b}', ROW_4,
        ROW_4 + f"(b == {b} and base + ports * b == 32768) or ") for b in (8, 16, 32)],
-    ('area that ends with the memory refused with 11', "base: base > 32767",
-     "base: base > 32767 or base + ports * b == 32768"),
+    ('area that ends with the memory refused with 11', "kind: base > 32767",
+     "kind: base > 32767 or base + ports * b == 32768"),
     ('area may end past the memory', ROW_4, ROW_4 + "base + ports * b <= 32768 and "),
     *[(f'area may end past the memory, b {b}', ROW_4, ROW_4 + f"not (b == {b} and base + ports * b > 32768) and ")
       for b in (8, 16, 32)],
@@ -472,7 +474,7 @@ CHANGES = {
     'interrupt': "        status[11:16] = [0] * 5\n",
     'sweep': "        made = used = 0\n",
 }
-SETUP_ASKS = "        code = self.setup_refusal(b, ports, base)\n"
+SETUP_ASKS = "        code = self.setup_refusal(b, ports, base, kind)\n"
 MADE = "        made = Record()\n"
 UNSOUND = "if r.pos >= r.ports:"
 STORES = "            memory.put_byte(pointer, BYTE_OF[stored])\n"
@@ -987,7 +989,6 @@ STACK_MUTANTS = [
     ('refused setup empties the stack of the unit', SETUP_ASKS,
      SETUP_ASKS + "        self.record.fill = 0 if code else self.record.fill\n"),
     ('setup of a Mighty Mux refused', SETUP_ASKS, SETUP_ASKS + "        code = code or (4 if kind else 0)\n"),
-    ("a Mighty Mux's base stricter", SETUP_ASKS, SETUP_ASKS + "        code = code or (3 if kind and base % 256 else 0)\n"),
     ("setup of a Mighty Mux asks no row 3", SETUP_ASKS, SETUP_ASKS + "        code = 0 if kind and code == 3 else code\n"),
     ('setup asks the old record', SETUP_ASKS, SETUP_ASKS + "        code = code or (4 if self.record.fill > STACK else 0)\n"),
     ('kind kept from setup, whatever the record has since', MADE_KIND, MADE_KIND + "            self.given = kind\n",
@@ -1075,6 +1076,164 @@ STACK_MUTANTS = [
 ]
 
 
+# The row of a Mighty Mux's bases (02, K7), and where soundness and a call ask the rows.
+ASKS_12 = "kind == MIGHTY_MUX and base % 0o400 != 0"
+SOUND_ASKS = "self.setup_refusal(r.block, r.ports, r.base, r.kind)"
+FORGETS = "        if code:\n            self.hit(f'unsound: setup"
+CALL_ASKS = "        code = self.table(memory, port, inspections)\n"
+NOTES_BASE = "                self.note_unsound_base()\n"
+BASE_LATE = f"        if {SOUND_ASKS.replace('r.', 'self.record.')} == 12:\n            return 6\n"
+
+# When the other rows do not apply, so that row 12 may stand above them and err beside one of them alone.
+PASSES = {1: "b in BLOCKS", 2: "0 < ports <= 128", 3: "b and base % (8 * b) == 0", 11: "base <= 32767"}
+CROSSES = "base // (128 * b) != (base + ports * b - 1) // (128 * b)"
+
+# Wrong rules of row 12.
+WRONG_12 = {
+    'for both kinds': "base % 0o400 != 0",
+    'never': "False",
+    'for an EDS-8 alone': "kind == EDS_8 and base % 0o400 != 0",
+    'for a multiple of octal 400': "kind == MIGHTY_MUX and base % 0o400 == 0",
+    'for every Mighty Mux': "kind == MIGHTY_MUX",
+    **{f'by {name}': f"kind == MIGHTY_MUX and {wrong} != 0" for name, wrong in (
+        ('octal 100', "base % 0o100"), ('octal 200', "base % 0o200"), ('octal 300', "base % 0o300"),
+        ('octal 1000', "base % 0o1000"), ('octal 2000', "base % 0o2000"),
+        ('octal 40000', "base % 0o40000"), ('decimal 400', "base % 400"), ('octal 377', "base % 0o377"),
+        ('octal 401', "base % 0o401"), ('hexadecimal 400', "base % 0x400"),
+        ('8b', "base % (8 * b)"), ('8b doubled', "base % (16 * b)"), ('8b four times', "base % (32 * b)"),
+        ('8b eight times', "base % (64 * b)"), ('the stretch of 128 blocks', "base % (128 * b)"),
+        ('the end of the area', "(base + ports * b) % 0o400"), ('the last block', "(base + ports * b - b) % 0o400"),
+        ('the end as well', "(base % 0o400 or (base + ports * b) % 0o400)"),
+        ('the end where the base is wrong', "base % 0o400 * ((base + ports * b) % 0o400)"),
+        ('the area in words', "(ports * b) % 0o400"),
+        ("the base's odd 64", "base & 0o100"), ("the base's odd 128", "base & 0o200"), ("the base's odd 256", "base & 0o400"),
+        ('the base in bytes', "2 * base % 0o400"), ('half the base', "base // 2 % 0o400"),
+        ('the eight top bits', "base // 0o400"))},
+    **{f'only {name}': f"{ASKS_12} and {where}" for name, where in (
+        ('above octal 400', "base > 0o400"), ('below octal 400', "base < 0o400"), ('below 1024', "base < 1024"),
+        ('below 16384', "base < 16384"), ('above 16384', "base > 16384"), ('below the last base', "base < 32512"),
+        ('in blocks of 8', "b == 8"), ('in blocks of 16', "b == 16"), ('of one port', "ports == 1"),
+        ('of more ports than one', "ports > 1"), ('of eight ports or more', "ports >= 8"),
+        ('of fewer ports than 128', "ports < 128"), ('at odd multiples of 64', "base % 128 != 0"),
+        ('at odd multiples of 128', "base % 128 == 0"),
+        *((f'elsewhere than at {base}', f"base != {base}") for base in (64, 128, 192, 320, 384, 1600, 3200, 32640, 32704)))},
+    **{f'also {name}': f"kind == MIGHTY_MUX and (base % 0o400 != 0 or {where})" for name, where in (
+        ('at 0', "base == 0"), ('at octal 400', "base == 256"), ('at 512', "base == 512"), ('at 768', "base == 768"),
+        ('at the last base', "base == 32512"), ('at all bases but octal 36000', "base != 0o36000"),
+        ('at odd multiples', "base & 0o400"), ('in blocks of 8', "b == 8"), ('in blocks of 16', "b == 16"),
+        ('in blocks of 32', "b == 32"), ('of more ports than 32', "ports > 32"), ('of more ports than 64', "ports > 64"))},
+    **{f'not before 4 in blocks of {b}': f"{ASKS_12} and not (b == {b} and {CROSSES})" for b in (8, 16)},
+}
+
+
+def row(number, rule):
+    """A row of setup's table."""
+    return f"    {number}: lambda b, ports, base, kind: {rule},\n"
+
+
+def of_an_eds_8(number):
+    """A row as it stands, for an EDS-8 alone."""
+    return row(number, f"kind == EDS_8 and ({ROWS[number].split('kind: ')[1][:-2]})")
+
+
+# Of the bases of a Mighty Mux (02, K7).
+BASE_MUTANTS = [
+    *[(f'12 {name}', ROWS[12], row(12, wrong)) for name, wrong in WRONG_12.items()],
+
+    # Its place.
+    ('12 asked after 4', ROWS[12] + ROWS[4], ROWS[4] + ROWS[12]),
+    ('12 asked before 11', ROWS[11] + ROWS[12], ROWS[12] + ROWS[11]),
+    ('12 asked before 3', ROWS[3] + ROWS[11] + ROWS[12], ROWS[12] + ROWS[3] + ROWS[11]),
+    ('12 asked before 3, after 11', ROWS[3] + ROWS[11] + ROWS[12], ROWS[11] + ROWS[12] + ROWS[3]),
+    ('12 asked before 2', ROWS[2] + ROWS[3] + ROWS[11] + ROWS[12], ROWS[12] + ROWS[2] + ROWS[3] + ROWS[11]),
+    ('12 asked before 1', ROWS[1] + ROWS[2] + ROWS[3] + ROWS[11] + ROWS[12], ROWS[12] + ROWS[1] + ROWS[2] + ROWS[3] + ROWS[11]),
+    *[(f'12 asked before {number}, after the others', ROWS[1] + ROWS[2] + ROWS[3] + ROWS[11] + ROWS[12],
+       row(12, ' and '.join([ASKS_12, *(passes for other, passes in PASSES.items() if other != number)]))
+       + ROWS[1] + ROWS[2] + ROWS[3] + ROWS[11]) for number in PASSES],
+    ('11 asked after 12 and 4', ROWS[11] + ROWS[12] + ROWS[4], ROWS[12] + ROWS[4] + ROWS[11]),
+
+    # Its number.
+    *[(f'12 given as {number}', SETUP_ASKS, SETUP_ASKS + f"        code = {number} if code == 12 else code\n")
+      for number in (0, 1, 2, 3, 4, 11)],
+    *[(f'12 given as {number}', "    12: lambda", f"    {number}: lambda") for number in (5, 6, 10, 13, 20)],
+    *[(f'12 given for {number}', SETUP_ASKS, SETUP_ASKS + f"        code = 12 if kind and code == {number} else code\n")
+      for number in (1, 2, 3, 4, 11)],
+    *[(f'12 given for {number}, in blocks of 32', SETUP_ASKS,
+       SETUP_ASKS + f"        code = 12 if kind and b == 32 and base % 256 and code == {number} else code\n")
+      for number in (2, 3)],
+    ('12 given for 3, of an EDS-8', SETUP_ASKS, SETUP_ASKS + "        code = 12 if not kind and code == 3 else code\n"),
+    ('3 stricter for a Mighty Mux', "base % (8 * b) != 0,", "base % (0o400 if kind == MIGHTY_MUX else 8 * b) != 0,"),
+    ('11 and 12 exchanged', ROWS[11] + ROWS[12], ROWS[11].replace("11:", "12:") + ROWS[12].replace("12:", "11:")),
+
+    # The other rows of a Mighty Mux.
+    *[(f'{number} not asked of a Mighty Mux', ROWS[number], of_an_eds_8(number)) for number in (1, 2, 3, 11, 4)],
+    ('3 of a Mighty Mux by octal 400 alone', "base % (8 * b) != 0,", "base % (8 * b) != 0 and (kind == EDS_8 or b == 32),"),
+    ('2 of a Mighty Mux above 64', "ports > 128,", "ports > (64 if kind == MIGHTY_MUX else 128),"),
+    ('2 of a Mighty Mux above 256', "ports > 128,", "ports > (256 if kind == MIGHTY_MUX else 128),"),
+    ('11 of a Mighty Mux above 65535', "kind: base > 32767", "kind: base > (65535 if kind == MIGHTY_MUX else 32767)"),
+    ('11 of a Mighty Mux from its last base on', "kind: base > 32767",
+     "kind: base > (32511 if kind == MIGHTY_MUX else 32767)"),
+    ('4 of a Mighty Mux by twice the stretch', CROSSES, CROSSES.replace("128 * b", "(128 + 128 * kind) * b")),
+    ('4 of a Mighty Mux by half the stretch', CROSSES, CROSSES.replace("128 * b", "(128 - 64 * kind) * b")),
+    ('4 of a Mighty Mux one port early', CROSSES, CROSSES.replace("ports * b", "(ports + kind) * b")),
+    ('4 of a Mighty Mux one port late', CROSSES, CROSSES.replace("ports * b", "(ports - kind) * b")),
+
+    # Setup.
+    ('such a base lowered', SETUP_ASKS, SETUP_ASKS + "        if code == 12:\n            base -= base % 256\n"
+     "            code = self.setup_refusal(b, ports, base, kind)\n"),
+    ('such a base raised', SETUP_ASKS, SETUP_ASKS + "        if code == 12:\n            base += -base % 256\n"
+     "            code = self.setup_refusal(b, ports, base, kind)\n"),
+    ('such a unit set up as an EDS-8', SETUP_ASKS, SETUP_ASKS + "        if code == 12:\n            kind = EDS_8\n"
+     "            code = self.setup_refusal(b, ports, base, kind)\n"),
+    *[(f'setup takes every unit for {name}', SETUP_ASKS, SETUP_ASKS.replace("kind)", f"{wrong})")) for name, wrong in (
+        ('an EDS-8', "EDS_8"), ('a Mighty Mux', "MIGHTY_MUX"), ('the other kind', "1 - kind"),
+        ('the kind of the one before', "self.record.kind"), ('a Mighty Mux after one', "kind or self.record.kind"),
+        ('an EDS-8 after one', "kind and self.record.kind"))],
+    ('12 gives a Mighty Mux', MADE, MADE + "        made.kind = kind if code == 12 else EDS_8\n"),
+    ('12 gives the sizes', MADE,
+     MADE + "        if code == 12:\n            made.block, made.ports, made.base = b, ports, base\n"),
+    ('12 gives fresh ports', MADE, MADE + "        if code == 12:\n            made.port = [FRESH_PORT] * ARRAY\n"),
+    *[(f'12 {name}', SETUP_ASKS, SETUP_ASKS + f"        if code == 12:\n            {wrong}\n") for name, wrong in (
+        ('makes the unit a Mighty Mux', "self.record.kind = MIGHTY_MUX"),
+        ('makes the unit an EDS-8', "self.record.kind = EDS_8"),
+        ('stops the unit', "self.record.runs = 0"), ('empties the stack of the unit', "self.record.fill = 0"),
+        ('moves the unit', "self.record.base = 0"))],
+
+    # Soundness.
+    ('soundness forgets row 12', FORGETS, FORGETS.replace("if code:", "if code and code != 12:")),
+    *[(f'soundness forgets row 12 {name}', FORGETS, FORGETS.replace("if code:", f"if code and not (code == 12 and {where}):"))
+      for name, where in (
+          ('in blocks of 8', "r.block == 8"), ('in blocks of 16', "r.block == 16"), ('at 64', "r.base == 64"),
+          ('at 192', "r.base == 192"), ('at 128', "r.base == 128"), ('above octal 400', "r.base > 256"),
+          ('below octal 400', "r.base < 256"), ('at the last bases', "r.base > 32512"), ('in a stopped unit', "not r.runs"),
+          ('in a running unit', "r.runs"), ('with no entry', "not r.fill"), ('with entries', "r.fill"),
+          ('with the flag off', "not r.irq"), ('with the flag on', "r.irq"))],
+    *[(f'soundness takes every record for {name}', SOUND_ASKS, SOUND_ASKS.replace("r.kind", wrong)) for name, wrong in (
+        ('an EDS-8', "EDS_8"), ('a Mighty Mux', "MIGHTY_MUX"), ('the other kind', "1 - r.kind"))],
+    ('soundness asks the kind of the last setup', SETUP_ASKS, "        self.given = kind\n" + SETUP_ASKS,
+     SOUND_ASKS, SOUND_ASKS.replace("r.kind", "getattr(self, 'given', r.kind)")),
+    ('soundness asks the kind of the last setup that was accepted', MADE_KIND, MADE_KIND + "            self.given = kind\n",
+     SOUND_ASKS, SOUND_ASKS.replace("r.kind", "getattr(self, 'given', r.kind)")),
+    ('soundness asks row 12 alone of a Mighty Mux', FORGETS,
+     FORGETS.replace("if code:", "if code and (r.kind == EDS_8 or code == 12):")),
+    ('soundness refuses every Mighty Mux', FORGETS, "        code = code or 12 * r.kind\n" + FORGETS),
+    ('soundness by octal 200', SOUND_ASKS, SOUND_ASKS.replace("r.base,", "r.base * (2 if r.base < 16384 else 1),")),
+    ('base lowered by a refused call', NOTES_BASE, "                r.base -= r.base % 256\n"),
+    ('EDS-8 made by a refused call', NOTES_BASE, "                r.kind = EDS_8\n"),
+    *[(f'12 of a record asked {when}', FORGETS, FORGETS.replace("if code:", "if code and code != 12:"), line, BASE_LATE + line)
+      for when, line in (
+          ('after the memory', "        if port is not None and port >= self.record.ports:\n"),
+          ('after the port', "        if inspections is not None and inspections > 4096:\n"),
+          ('after the count', "        if inspections is not None and self.lent_places < inspections:\n"),
+          ('last', "        return 0\n\n    def refusal("))],
+    *[(f'{call} accepted of a Mighty Mux at such a base', CALL_ASKS,
+       f"        kind = self.record.kind\n        self.record.kind = EDS_8 if call == '{call}' else kind\n{CALL_ASKS}"
+       "        self.record.kind = kind\n") for call in mux2.CALLS],
+    *[(f'{call} refused of an EDS-8 at such a base', CALL_ASKS,
+       f"{CALL_ASKS}        code = 6 if call == '{call}' and self.record.base % 256 else code\n") for call in mux2.CALLS],
+]
+
+
 def program(*texts):
     """The second program with each piece of its text in `texts` replaced by the one that follows it."""
     source = SOURCE
@@ -1102,14 +1261,15 @@ def first_difference(mutant, author):
 
 def main():
     began = time.time()
-    groups = {'sets': SET_MUTANTS, 'stack': STACK_MUTANTS, 'others': MUTANTS}
+    groups = {'sets': SET_MUTANTS, 'stack': STACK_MUTANTS, 'bases': BASE_MUTANTS, 'others': MUTANTS}
     group_of = {name: group for group, wrong in groups.items() for name, *_ in wrong}
     count = sum(map(len, groups.values()))
     if len(group_of) < count:
         sys.exit('two mutants have one name')
     alive = {name: program(*texts) for wrong in groups.values() for name, *texts in wrong}
     for number, (author, _) in enumerate(sessions.fixed_set(), 1):
-        group = {'sets': 'sets', **dict.fromkeys(sessions.OF_THE_STACK, 'stack')}.get(author.kind, 'others')
+        group = {'sets': 'sets', sessions.OF_THE_BASES: 'bases', **dict.fromkeys(sessions.OF_THE_STACK, 'stack')}.get(
+            author.kind, 'others')
         for name in [name for name in alive if group_of[name] == group]:
             call = first_difference(alive[name], author)
             if call is not None:

@@ -1,10 +1,10 @@
 """A second EDS-8 and Mighty Mux, for comparison with the proved ones.
 
-Written from document 01, requests K1, K2, K5, K6 and K10 of document 02 (K4 asks nothing of it), the manuals of 1974
-(001) and 1982 (000) and the readings of docs/DECISIONS.md, without sight of the definitions or the code. It takes
+Written from document 01, requests K1, K2, K5, K6, K7 and K10 of document 02 (K4 asks nothing of it), the manuals of
+1974 (001) and 1982 (000) and the readings of docs/DECISIONS.md, without sight of the definitions or the code. It takes
 another road than the proved program: a word is a list of sixteen 0s and 1s indexed by the
 manual's bit numbers, a port is an immutable object, a stack is a tuple, and memory is a bytearray
-in which a byte pointer is simply an index. Each branch of document 01 and of K6 has a
+in which a byte pointer is simply an index. Each branch of document 01, of K6 and of K7 has a
 name, and `reached` counts how often it was taken.
 """
 
@@ -116,14 +116,16 @@ class Memory:
 
 BLOCKS = (8, 16, 32)            # the sizes of a control block, in words
 
-# The rows of document 01's table that setup asks, in their order (02, K1: 11 right after 3; K10: no row 5):
-# each number, and when it is given if no row above it was. A sound record (6) passes the same rows.
+# The rows of document 01's table that setup asks, in their order (02, K1: 11 right after 3; K7: 12 after 3 and 11, before 4;
+# K10: no row 5): each number, and when it is given if no row above it was. Row 12 is a Mighty Mux's alone (000, 3.7.7). A
+# sound record (6) passes the same rows, with the kind that it has.
 SETUP_ROWS = {
-    1: lambda b, ports, base: b not in BLOCKS,
-    2: lambda b, ports, base: ports == 0 or ports > 128,
-    3: lambda b, ports, base: base % (8 * b) != 0,
-    11: lambda b, ports, base: base > 32767,
-    4: lambda b, ports, base: base // (128 * b) != (base + ports * b - 1) // (128 * b),
+    1: lambda b, ports, base, kind: b not in BLOCKS,
+    2: lambda b, ports, base, kind: ports == 0 or ports > 128,
+    3: lambda b, ports, base, kind: base % (8 * b) != 0,
+    11: lambda b, ports, base, kind: base > 32767,
+    12: lambda b, ports, base, kind: kind == MIGHTY_MUX and base % 0o400 != 0,
+    4: lambda b, ports, base, kind: base // (128 * b) != (base + ports * b - 1) // (128 * b),
 }
 
 SETUP_CALLS = {'setup': tuple(SETUP_ROWS)}
@@ -184,6 +186,22 @@ STACK_BRANCHES = (
     + [f'sweep: {where} a lost interrupt' for where in ('stops at', 'ends with')]
     + ['sweep: stops at a queued interrupt'])
 
+# What a base that an EDS-8 may have and a Mighty Mux may not meets (02, K7): no multiple of octal 400, and all else right.
+SMALL_BLOCKS = (8, 16)          # in blocks of 32 row 3 asks as much
+BASE_BRANCHES = (
+    [f'{call} {verdict}' for call in CALLS for verdict in (
+        'accepted at a base for an EDS-8 alone', 'refused 6 for the base of a Mighty Mux alone')]
+    + [f'setup {verdict}, b {b}' for b in SMALL_BLOCKS for verdict in (
+        'refused 12 for the base alone', 'refused 12 before 4', 'refused 11 before 12',
+        'accepted as EDS-8 at a base for it alone', 'refused 4 as EDS-8 at a base for it alone')]
+    + [f'setup {verdict} of a Mighty Mux, b {b}' for b in BLOCKS for verdict in (
+        'refused 2 before 12', 'refused 3 before 12', 'refused 4 at a multiple of 256')]
+    + [f'setup accepted of a Mighty Mux, b {b}, at {where}' for b in BLOCKS for where in (
+        '0', 'a multiple of 512', 'another multiple of 256', 'the last one')]
+    + ['setup refused 1 before 12']
+    + [f'unsound: setup gives 12, {what}' for what in (
+        'sound as an EDS-8', 'the area of an EDS-8 would cross', 'position as well', 'too many entries as well')])
+
 BRANCHES = (
     [f'{call} refused {code}' for call, codes in REFUSALS.items() for code in codes]
     + [f'{call} accepted' for call in REFUSALS]
@@ -236,7 +254,7 @@ BRANCHES = (
     + ['reset keeps the 1974 set', 'reset keeps another set', 'input 6: five bits in 7-bit ASCII',
        'output 01: ordinary, special asked for', 'output 01: glottal stop passes the special request']
     + [f'speed {code:03b}' for code in range(8)]
-    + STACK_BRANCHES)
+    + STACK_BRANCHES + BASE_BRANCHES)
 NONE_REACHED = dict.fromkeys(BRANCHES, 0)               # copied for each unit, as that is faster
 
 
@@ -262,17 +280,19 @@ class Mux2:
 
     # Refusals, in the order of the table.
 
-    def setup_refusal(self, b, ports, base):
+    def setup_refusal(self, b, ports, base, kind):
         for number, applies in SETUP_ROWS.items():
-            if applies(b, ports, base):
+            if applies(b, ports, base, kind):
                 return number
         return 0
 
     def unsound(self):
         r = self.record
-        code = self.setup_refusal(r.block, r.ports, r.base)
+        code = self.setup_refusal(r.block, r.ports, r.base, r.kind)
         if code:
             self.hit(f'unsound: setup gives {code}')
+            if code == 12:
+                self.note_unsound_base()
             return True
         if r.pos >= r.ports:
             self.hit('unsound: position')
@@ -302,6 +322,8 @@ class Mux2:
             self.hit('sweep refused 9 before 10')
         if self.record.fill >= STACK:
             self.note_entries(call, code)
+        if self.record.base % 0o400:
+            self.note_base(call, code)
         return code
 
     def note_entries(self, call, code):
@@ -312,17 +334,39 @@ class Mux2:
         elif code == 6 and self.record.fill > STACK:
             self.hit(f'{call} refused 6 with too many entries, {kind}')
 
+    def beside_base(self):
+        """What is wrong with a record beside a base that a Mighty Mux may not have, or that nothing is; changes nothing."""
+        r = self.record
+        met = {'the area of an EDS-8 would cross': self.setup_refusal(r.block, r.ports, r.base, EDS_8),
+               'position as well': r.pos >= r.ports, 'too many entries as well': r.fill > STACK}
+        return next((what for what, is_met in met.items() if is_met), 'sound as an EDS-8')
+
+    def note_unsound_base(self):
+        """Counts what else is wrong with a Mighty Mux whose base is (02, K7); changes nothing."""
+        self.hit(f'unsound: setup gives 12, {self.beside_base()}')
+
+    def note_base(self, call, code):
+        """Counts the calls at a base that an EDS-8 alone may have (02, K7); changes nothing."""
+        if code == 0:
+            self.hit(f'{call} accepted at a base for an EDS-8 alone')
+        elif code == 6 and self.record.kind == MIGHTY_MUX and self.beside_base() == 'sound as an EDS-8':
+            self.hit(f'{call} refused 6 for the base of a Mighty Mux alone')
+
     # Setup gives a new record and leaves the old one.
 
     def setup(self, b, ports, base, codes=SET_1974, kind=EDS_8):
-        """A new unit of this kind (02, K6) with this set of special codes; neither is refused (02, K5)."""
-        code = self.setup_refusal(b, ports, base)
+        """A new unit of this kind (02, K6) with this set of special codes; neither is refused by itself (02, K5, K7)."""
+        code = self.setup_refusal(b, ports, base, kind)
         self.hit(f'setup refused {code}' if code else 'setup accepted')
         self.note_set(code, tuple(codes))
         self.note_kind(code, kind)
         if base > 32767:
             self.note_high_base(code, b, ports, base)
         self.note_area(code, b, base + ports * b)
+        if base % 0o400:
+            self.note_small_base(code, b, ports, base, kind)
+        elif kind == MIGHTY_MUX and b in BLOCKS:
+            self.note_mighty_base(code, b, base)
         made = Record()
         if code == 0:
             made.block, made.ports, made.base = b, ports, base
@@ -350,7 +394,7 @@ class Mux2:
                 self.hit(f'setup refused 11, b {b}: at 32768')
             elif base >= 2147483648:
                 self.hit(f'setup refused 11, b {b}: far from it')
-            if SETUP_ROWS[4](b, ports, base):
+            if SETUP_ROWS[4](b, ports, base, EDS_8):
                 self.hit('setup refused 11 before 4')
 
     def note_area(self, code, b, end):
@@ -359,6 +403,30 @@ class Mux2:
             self.hit(f'setup accepted, b {b}: area ends at 32768')
         elif code == 4 and end > WORDS:
             self.hit(f'setup refused 4, b {b}: area would end past 32768')
+
+    def note_small_base(self, code, b, ports, base, kind):
+        """Counts setups at a base that is no multiple of octal 400 (02, K7), and what stood beside it; changes nothing."""
+        if kind == EDS_8:
+            if b in SMALL_BLOCKS and code in (0, 4):
+                self.hit(f'setup {"refused 4" if code else "accepted"} as EDS-8 at a base for it alone, b {b}')
+        elif code == 1:
+            self.hit('setup refused 1 before 12')
+        elif b in BLOCKS and code in (2, 3):
+            self.hit(f'setup refused {code} before 12 of a Mighty Mux, b {b}')
+        elif b in SMALL_BLOCKS and code == 11:
+            self.hit(f'setup refused 11 before 12, b {b}')
+        elif b in SMALL_BLOCKS and code == 12:
+            crosses = SETUP_ROWS[4](b, ports, base, kind)
+            self.hit(f'setup refused 12 {"before 4" if crosses else "for the base alone"}, b {b}')
+
+    def note_mighty_base(self, code, b, base):
+        """Counts the bases that a Mighty Mux may have (02, K7), and where they are too high for its ports; changes nothing."""
+        if code == 4:
+            self.hit(f'setup refused 4 at a multiple of 256 of a Mighty Mux, b {b}')
+        elif code == 0:
+            where = 'another multiple of 256' if base % 512 else 'a multiple of 512'
+            where = {0: '0', WORDS - 256: 'the last one'}.get(base, where)
+            self.hit(f'setup accepted of a Mighty Mux, b {b}, at {where}')
 
     # What the lines do.
 

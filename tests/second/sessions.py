@@ -49,7 +49,7 @@ STOP_AT = NAME.index(mux2.GLOTTAL_STOP)
 CHOSEN = {mux2.SET_1974: 6, mux2.DICTIONARY: 2, mux2.EVERY_CODE: 1, mux2.NO_CODE: 1, 'random': 2}
 
 # How often a setup of a random session's second part is given each kind (02, K6).
-CHOSEN_KINDS = {mux2.MIGHTY_MUX: 3, mux2.EDS_8: 1}
+CHOSEN_KINDS = {mux2.MIGHTY_MUX: 4, mux2.EDS_8: 1}
 
 # How often each action is chosen, by the kind of session.
 USUAL = dict(turn=60, sweep=14, processor=8, host=4, lend_list=2, poke=2, stopped=2,
@@ -69,6 +69,11 @@ KINDS = {
     'quiet': dict(filled=0, sweep=40, turn=10, bad_sweep=6, lend_list=6),
 }
 TRAITS = dict(inputs=0.5, own=0.15, edge=0.15, busy=0.2, flip=0.12, filled=0.7)
+
+
+def step_of(b, kind):
+    """What a base of this kind is a multiple of, in blocks of b words: 8b, and of a Mighty Mux octal 400 as well (02, K7)."""
+    return 0o400 if kind == mux2.MIGHTY_MUX else 8 * b
 
 
 class Author:
@@ -132,7 +137,7 @@ class Author:
 
     def unsound(self):
         u = self.unit
-        return self.mux.setup_refusal(u.block, u.ports, u.base) != 0 or u.pos >= u.ports or u.fill > mux2.STACK
+        return self.mux.setup_refusal(u.block, u.ports, u.base, u.kind) != 0 or u.pos >= u.ports or u.fill > mux2.STACK
 
     def look(self, ahead=0):
         """The block of the port `ahead` turns from now, cut to an address that may be looked at."""
@@ -228,15 +233,24 @@ class Author:
             self.do(drive.POKE_STACK, place, self.below(65536))
 
     def poke_stack(self, what):
-        """A stack that no call would make, but a sound one."""
+        """A kind or a stack that no call would make, but a sound one in the end."""
         if what == 0:
-            self.do(drive.POKE, 8, self.below(2))
+            self.poke_kind(self.below(2))
         elif what == 1:
             self.do(drive.POKE, 9, self.below(2))
         elif what == 2:
             self.do(drive.POKE, 10, self.one_of(0, 1, 2, 38, 39, 40, self.below(41)))
         else:
             self.poke_words([self.one_of(0, 1, 39, self.below(40))])
+
+    def poke_kind(self, kind):
+        """The kind is poked. A Mighty Mux at a base for an EDS-8 alone (02, K7) is unsound until its kind or its base is poked
+        again; a base that is lowered to a multiple of 256 stays in its stretch of 128 blocks."""
+        u = self.unit
+        self.do(drive.POKE, 8, kind)
+        if self.unsound():
+            self.some_calls()
+            self.do(drive.POKE, *self.one_of((8, mux2.EDS_8), (2, u.base // 256 * 256)))
 
     def poke_depth(self):
         """A stack that is full or nearly so, or has a few entries."""
@@ -376,7 +390,7 @@ class Author:
         elif what == 2:
             self.do(drive.POKE, self.one_of(5, 6), self.below(2))
         elif what == 3:
-            _, ports, base = self.sound_place(u.block)
+            _, ports, base = self.sound_place(u.block, u.kind)
             self.do(drive.POKE, 1, ports)
             self.do(drive.POKE, 2, base)
             self.do(drive.POKE, 3, self.below(ports))
@@ -423,7 +437,7 @@ class Author:
             (2, (u.base // area + 1) * area - 8 * u.block), (1, 128),
             (3, self.one_of(u.ports, u.ports + 1, 128, MANY)))
         if self.chooses_kinds and self.chance(0.3):
-            field, value = 10, self.one_of(41, 42, 256, 65576, MANY)
+            field, value = self.one_of((10, self.one_of(41, 42, 256, 65576, MANY)), (2, u.base + self.one_of(64, 128, 192)))
         good = getattr(u, drive.FIELDS[field])
         self.do(drive.POKE, field, value)
         words = self.one_of(32768, 32768, 32767)
@@ -480,26 +494,36 @@ class Author:
 
     # Starting.
 
-    def sound_place(self, b):
-        """Ports and a base that setup accepts."""
-        eight = 8 * b
-        base = self.below(32768 // eight) * eight
+    def sound_place(self, b, kind):
+        """Ports and a base that setup accepts for this kind."""
+        step = step_of(b, kind)
+        base = self.below(32768 // step) * step
         room = 128 - base // b % 128
         if self.kind == 'mixed' or self.chance(0.1):
             base, room = base // (128 * b) * 128 * b, 128
         elif self.chance(0.2):          # at either end of memory, where pointers start again
-            base, room = self.one_of((0, 128), (32768 - eight, 8))
+            base, room = self.one_of((0, 128), (32768 - step, step // b))
         ports = self.one_of(1, 2, 3, 4, min(8, room), 1 + self.below(room), room)
         return b, ports, base
 
     def good_setup(self):
         self.choose_set()
         self.choose_kind()
-        self.do(drive.SETUP, *self.sound_place(self.one_of(8, 16, 32)), self.below(2))
+        self.do(drive.SETUP, *self.sound_place(self.one_of(8, 16, 32), self.driver.kind), self.below(2))
         for p in range(self.unit.ports):
             if self.chance(0.8):
                 self.do(drive.POKE_PORT, p, 6, self.control())
         self.go()
+
+    def small_base(self):
+        """A setup at a base for an EDS-8 alone (02, K7), of either kind; a sound unit that it leaves becomes a Mighty Mux."""
+        self.choose_kind()
+        b = self.one_of(8, 16)
+        base = 256 * self.below(128) + 8 * b * (1 + self.below(256 // (8 * b) - 1))
+        self.do(drive.SETUP, b, self.one_of(1, 4, 1 + self.below(128)), base, self.below(2))
+        if not self.unsound():
+            self.poke_kind(mux2.MIGHTY_MUX)
+        self.some_calls()
 
     def session(self, calls):
         if self.trait('filled'):
@@ -509,6 +533,7 @@ class Author:
         self.act(calls)
         self.random, self.chooses_kinds = self.second, True
         self.actions['poke'] += 4                       # the stack is poked as well
+        self.small_base()
         self.good_setup()
         self.poke_depth()
         self.act(self.calls + KIND_CALLS)
@@ -1123,7 +1148,8 @@ def small_sets_session():
 # The sessions of the stack (02, K6).
 
 OF_THE_STACK = ('poked stacks', 'stack', 'both kinds')  # their kinds
-PLACES_OF = {8: (48, 64), 16: (64, 2176), 32: (41, 14848)}      # by the block size: ports, and a base whose address is not 0
+PLACES_OF = {8: (48, 256), 16: (64, 2304), 32: (41, 14848)}     # by the block size: ports, and a base for both kinds whose
+                                                                # address is not 0
 
 # How a stack is filled and drained: interrupts, then STARTs. It is overfilled, the lost mark is kept and cleared, freed places
 # are used again, and some STARTs find no entry.
@@ -1229,7 +1255,7 @@ def every_end(author):
     """Everything that makes an input or an output done, on a stack with room and on a full one: names, marked characters, short
     buffers, a change of the line."""
     for depth in (0, 40):
-        one_port(author, 64)
+        one_port(author, 256)
         raised(author, depth, BY[1])
         names(author)
         raised(author, depth, BY[0])
@@ -1323,7 +1349,7 @@ def between_other_calls(author):
 def kinds_between(author):
     """Setups of both kinds in mid-session, with entries, lost ones and a tick waiting: one that is refused leaves the unit, its
     kind and its stack, or gives the record of zeros; one that is accepted is fresh and has the new kind."""
-    wrong = ((7, 1, 64), (8, 0, 64), (8, 1, 65), (8, 1, 32768), (8, 121, 64))       # 1, 2, 3, 11 and 4
+    wrong = ((7, 1, 256), (8, 0, 256), (8, 1, 257), (8, 1, 32768), (8, 97, 256))    # 1, 2, 3, 11 and 4, of either kind
     for number, setting in enumerate(wrong):
         for of_unit in (1, 0):
             for given in (1, 0):
@@ -1340,7 +1366,7 @@ def kinds_between(author):
                 if number % 2:                          # every second time the unit is the record of zeros by then
                     author.do(drive.SETUP, *setting, 1)
                     author.do(drive.DIA)
-                author.do(drive.SETUP, 8, 8, 64, 1)
+                author.do(drive.SETUP, 8, 8, 256, 1)
                 for op in (drive.DIA, drive.START, drive.DOC, drive.IOPLS):
                     author.do(op)
                 raised(author, 2, BY[2])
@@ -1564,8 +1590,210 @@ def poked_session():
     return author, reached
 
 
+# The session of the bases of a Mighty Mux (02, K7).
+
+OF_THE_BASES = 'bases of a Mighty Mux'                  # its kind
+NEAR_400 = (0, 1, 63, 64, 65, 100, 127, 128, 192, 200, 255, 256, 257, 264, 320, 384, 400, 448, 512, 640, 768, 896, 960, 1024,
+            1152, 1600, 3200, 4096)                     # around octal 400, and multiples of decimal 400
+LAST_ONES = (32256, 32320, 32512, 32576, 32640, 32704, 32767)
+PAST_THEM = (32768, 32832, 32896, 33024, 33152, 65472, 65536, 65600, 65664, 65792, 2147483584, 2147483648, 2147483712,
+             2147483776, 2147483904, HIGH - 64, HIGH, HIGH + 64, HIGH + 128, MANY)
+SMALL_BASES = {8: (64, 128, 192, 320, 448, 960, 1600, 32576, 32704), 16: (128, 384, 896, 3200, 32640),
+               32: ()}                                  # by the block size: bases that an EDS-8 alone may have
+OTHER_BLOCKS = (7, 24)
+
+
+def faults(setting, kind):
+    """The numbers of all rows that apply to a setting, whichever is given."""
+    return tuple(number for number, applies in mux2.SETUP_ROWS.items() if applies(*setting, kind))
+
+
+def every_fault(author, kind):
+    """A setting for each set of faults that one can have, in each block size and in wrong ones: refused with the unit left, then
+    with the record of zeros in its place."""
+    author.give_kind(kind)
+    for b in (*mux2.BLOCKS, *OTHER_BLOCKS):
+        bases = (256, 512, 768, 0, 64, 128, 257, 8 * b, 24 * b, 256 * b, 32832, 32896, 33024, 32769, 34048, 8 * b * 4111,
+                 257 * 256 * b)
+        met = {}
+        for setting in [(b, ports, base) for base in bases for ports in (1, 128, 0, 129)]:
+            met.setdefault(faults(setting, kind), setting)
+        for setting in met.values():
+            for take in (0, 1):
+                author.do(drive.SETUP, *setting, take)
+                author.do(drive.DIA)
+            author.do(drive.SETUP, 32, 8, 256, 0)
+
+
+def every_base(author, kind):
+    """Setups at every base above, with ports that just fit and one more; some leave the unit, and others do not."""
+    author.give_kind(kind)
+    for b in mux2.BLOCKS:
+        for number, base in enumerate(NEAR_400 + LAST_ONES + PAST_THEM):
+            room = 128 - base // b % 128
+            for ports in (1, room, room + 1) if base < 32768 else (1, 128):
+                author.do(drive.SETUP, b, ports, base, number % 2)
+        for base in (0, 64, 128, 256, 320, 384, 32768, 32832, 32896):
+            for ports in (0, 8, 96, 97, 128, 129, MANY):
+                author.do(drive.SETUP, b, ports, base, 0)
+
+
+def used(author, ports, base, b):
+    """A unit of the kind that stands is set up here and used: interrupts, a tick, characters, bytes and sweeps."""
+    empty_unit(author, ports, base, b)
+    raised(author, 3, BY[2])
+    author.do(drive.TICK)
+    started(author, 2, (drive.DIAS,))
+    serve_last_port(author)
+    author.do(drive.ARRIVAL, 0, 65, 0, 0)
+    author.do(drive.SWEEP, ports, author.look())
+    started(author, 4, (drive.DIAS,))
+
+
+def used_places(author):
+    """Units of both kinds at bases that either may have, with as many ports as fit, and EDS-8s at bases of their own."""
+    for b in mux2.BLOCKS:
+        for kind in (mux2.MIGHTY_MUX, mux2.EDS_8):
+            author.give_kind(kind)
+            for ports, base in ((8, 0), (3, 256), (5, 512), (1, 768), (2, 15360), (256 // b, 32512)):
+                used(author, ports, base, b)
+        used(author, 128 - 256 // b, 256, b)
+        for base in SMALL_BASES[b][:3]:
+            used(author, 8, base, b)
+
+
+def refused_between(author):
+    """Setups that 12 refuses in mid-session, with entries and a tick waiting: the unit goes on, of whichever kind it is, or is
+    the record of zeros. The same numbers for an EDS-8 are accepted, of whichever kind the unit was."""
+    for b in mux2.SMALL_BLOCKS:
+        for of_unit in (mux2.MIGHTY_MUX, mux2.EDS_8):
+            for base in SMALL_BASES[b][:3]:
+                author.give_kind(of_unit)
+                empty_unit(author, 8, 256, b)
+                raised(author, 3, BY[2])
+                author.do(drive.TICK)
+                author.give_kind(mux2.MIGHTY_MUX)
+                author.do(drive.SETUP, b, 8, base, 0)
+                author.do(drive.DIAS)
+                raised(author, 2, BY[2])
+                author.give_kind(mux2.EDS_8)
+                author.do(drive.SETUP, b, 8, base, 0)
+                author.do(drive.DOC)
+                raised(author, 2, BY[2])
+                author.give_kind(mux2.MIGHTY_MUX)
+                author.do(drive.SETUP, b, 8, base, 0)   # what the unit is does not count
+                author.do(drive.DIAS)
+                author.do(drive.SETUP, b, 8, base, 1)
+                author.do(drive.DIA)
+                author.do(drive.POKE, 8, mux2.MIGHTY_MUX)
+                author.do(drive.SETUP, b, 8, base, 0)
+                author.give_kind(mux2.EDS_8)
+                author.do(drive.SETUP, b, 8, base, 0)
+
+
+def poked_bases(author):
+    """A Mighty Mux whose base is poked: every call is refused with 6 at one for an EDS-8 alone, and none at another multiple of
+    octal 400."""
+    for b in mux2.BLOCKS:
+        author.give_kind(mux2.MIGHTY_MUX)
+        empty_unit(author, 8, 256, b)
+        for number, base in enumerate(SMALL_BASES[b] + (257, 264, 32832, 33024)):
+            unsound_record(author, 2, base)
+            poke_all(author, base=(0, 512, 768, 32512)[number % 4])
+            raised(author, 2, BY[2])
+
+
+def poked_kinds(author):
+    """An EDS-8 whose kind is poked: every call is refused with 6 at a base for it alone, and none after it is poked back; at a
+    multiple of octal 400 the unit goes on as either."""
+    author.give_kind(mux2.EDS_8)
+    for b in mux2.BLOCKS:
+        for base in (*SMALL_BASES[b], 256, 768):
+            empty_unit(author, 8, base, b)
+            raised(author, 2, BY[2])
+            unsound_record(author, 8, mux2.MIGHTY_MUX)
+            every_call(author)
+            author.do(drive.START)
+
+
+def kind_and_base(author):
+    """Kind and base are poked in turn: such a base is unsound with the one kind and sound with the other, and the kind that the
+    last setup was given does not count."""
+    for b in mux2.SMALL_BLOCKS:
+        for given in (mux2.MIGHTY_MUX, mux2.EDS_8):
+            author.give_kind(given)
+            empty_unit(author, 8, 256, b)
+            for base in SMALL_BASES[b]:
+                poke_all(author, kind=mux2.MIGHTY_MUX, base=base)
+                author.do(drive.TICK)
+                author.inspect()
+                poke_all(author, kind=mux2.EDS_8)
+                raised(author, 2, BY[2])
+                author.do(drive.DIAS)
+                poke_all(author, kind=mux2.MIGHTY_MUX)
+                author.do(drive.DIAS)
+                author.do(drive.ARRIVAL, 0, 65, 0, 0)
+                poke_all(author, base=base // 256 * 256)
+                raised(author, 2, BY[2])
+                author.do(drive.DIAS)
+
+
+def beside_the_base(author):
+    """What else may be wrong beside such a base: 6 comes before any other number, whatever else makes a record unsound, in a
+    stopped unit too; a setup looks at no old record."""
+    author.give_kind(mux2.MIGHTY_MUX)
+    for b, base in ((8, 64), (8, 320), (16, 128), (16, 32640)):
+        empty_unit(author, 8, 256, b)
+        raised(author, 2, BY[2])
+        poke_all(author, base=base)
+        author.do(drive.ARRIVAL, 8, 65, 0, 0)
+        author.do(drive.TRANSMITTED, MANY)
+        author.do(drive.DEVICE_STATUS, 128, 1)
+        author.do(drive.SWEEP, 4097, author.look())
+        author.do(drive.SWEEP, 4096, author.look())
+        author.do(drive.WORDS, 32767)
+        author.inspect()
+        author.do(drive.SWEEP, 0, author.look())
+        author.do(drive.WORDS, 32768)
+        for field, value in (('pos', 8), ('ports', 121), ('fill', 41), ('ports', 0), ('block', 7), ('runs', 0)):
+            good = getattr(author.unit, field)
+            poke_all(author, **{field: value})
+            for kind in (mux2.MIGHTY_MUX, mux2.EDS_8, mux2.MIGHTY_MUX):
+                poke_all(author, kind=kind)
+                author.do(drive.DIA)
+                author.inspect()
+                author.do(drive.DOC)
+            poke_all(author, **{field: good})
+        for kind, ports in ((mux2.MIGHTY_MUX, 0), (mux2.MIGHTY_MUX, 8), (mux2.EDS_8, 8)):
+            author.give_kind(kind)
+            author.do(drive.SETUP, b, ports, base, 0)
+        author.give_kind(mux2.MIGHTY_MUX)
+        author.do(drive.DOC)
+        author.inspect()
+
+
+def mighty_bases_session():
+    """The session of the bases of a Mighty Mux, and of an EDS-8 at the same ones."""
+    author = Author(SEED, 0)
+    author.kind = OF_THE_BASES
+    author.do(drive.PLACES, 128, 65535)
+    poked_bases(author)
+    poked_kinds(author)
+    kind_and_base(author)
+    beside_the_base(author)
+    refused_between(author)
+    for kind in (mux2.MIGHTY_MUX, mux2.EDS_8):
+        every_fault(author, kind)
+        every_base(author, kind)
+    used_places(author)
+    reached = author.mux.reached
+    author.do(drive.END)
+    return author, reached
+
+
 def small_stack_session():
-    """A short session of the stack, for small.py: filled, overfilled, drained, poked and reset, with a sweep at a full stack."""
+    """A short session of the stack, for small.py: filled, overfilled, drained, poked and reset, with a sweep at a full stack;
+    then a base for an EDS-8 alone, given to either kind and poked."""
     author = Author(SEED, 0)
     author.kind = 'small stack'
     author.do(drive.PLACES, 4, 65535)
@@ -1588,6 +1816,12 @@ def small_stack_session():
     unsound_record(author, 10, 41)
     author.do(drive.RESET)
     author.do(drive.SETUP, 7, 1, 64, 1)
+    for kind in (mux2.MIGHTY_MUX, mux2.EDS_8):
+        author.give_kind(kind)
+        author.do(drive.SETUP, 8, 2, 64, 0)
+    for field, value in ((8, mux2.MIGHTY_MUX), (2, 256), (2, 320), (8, mux2.EDS_8)):
+        author.do(drive.POKE, field, value)
+        author.do(drive.DIA)
     reached = author.mux.reached
     author.do(drive.END)
     return author, reached
@@ -1602,5 +1836,6 @@ def fixed_set(seed=SEED, sessions=SESSIONS):
     yield poked_session()
     yield stack_session()
     yield kinds_session()
+    yield mighty_bases_session()
     for number in range(sessions):
         yield write_session(seed, number)

@@ -1,33 +1,38 @@
 """Checks the answers of `settings`, the caretakers' program, against the second program's setup.
 
     settings2.py --write FILE               writes the fixed text that is typed
-    settings2.py --last                     prints how many short texts there are: 9, with the numbers 0 to 8
+    settings2.py --last                     prints how many short texts there are: 20, with the numbers 0 to 19
     settings2.py --last N FILE              writes short text N, which is there for its last line
     settings2.py --check FILE GOT PAGE [--some]
                                             compares what the program printed for a text, GOT, with what it must print
 
 A typed line is three decimal numbers, block size, ports and base, with blanks before and after as
 one likes and one or more between two numbers. A blank is a space, a tab (9) or a carriage return
-(13), all three alike. The line is answered by `accepted`, by two lines
+(13), all three alike. After the third number there may be one letter m (109), with or without blanks
+before it and with only blanks after it: then the setting is a Mighty Mux's, and without it an
+EDS-8's, whatever was typed before. The line is answered by `accepted`, by two lines
 
     refused, N: SENTENCE
     type instead: B P A
 
-or, where it is no such line or a number is 2^32 or more, by
+the second of which ends with a space and an m for a Mighty Mux, or, where it is no such line or a
+number is 2^32 or more, by
 
-    please type three decimal numbers below 4294967296: block size, ports, base
+    please type three decimal numbers below 4294967296: block size, ports, base; then m for a Mighty Mux
 
 SENTENCE is what the caretaker's page, PAGE, has for the number. A last line without a newline is
 answered as if it had one, unless it is empty or has only blanks: then it is not answered.
 
 B is the typed block size if that is 8, 16 or 32, else 32. P is the typed number of ports if that is
 1 to 128; 0 becomes 1, and more than 128 become 128. A is the largest base at or below the typed one
-that setup takes with B and P, so the base is kept where it can stay; 0 is always taken. Exit status
-0 only where all lines agree and, without --some, every kind of answer was among them.
+that setup of that kind takes with B and P, so the base is kept where it can stay; 0 is always taken.
+Exit status 0 only where all lines agree and, without --some, every kind of answer was among them, for
+each kind of unit.
 """
 
 import re
 import sys
+from functools import lru_cache
 from random import Random
 
 import mux2
@@ -35,39 +40,54 @@ import mux2
 SEED = 1974
 MOST = 4294967295
 HIGHEST = 32767                             # the last word of memory
-PLEASE = 'please type three decimal numbers below 4294967296: block size, ports, base'
+LEAST = 64                                  # every base that setup takes is a multiple of this: 8b where b is 8
+PLEASE = 'please type three decimal numbers below 4294967296: block size, ports, base; then m for a Mighty Mux'
 ADVICE = 'type instead: '
+LETTERS = {None: mux2.EDS_8, 'm': mux2.MIGHTY_MUX}      # the kind by the letter that follows the numbers
 
 # An entry of the caretaker's page: its number, its sentence, the lines below.
 ENTRY = re.compile(r'^ {4,5}(\d+)   (.*)\n((?: {9}.*\n)+)', re.M)
 
-# Only the digits 0 to 9 and three blanks: no other control code, no sign, no digit of another script.
+# Only the digits 0 to 9, three blanks and one m: no other control code, no sign, no digit of another script, no other letter.
 BLANKS = ' \t\r'
-TYPED = re.compile('[ \t\r]*([0-9]+)[ \t\r]+([0-9]+)[ \t\r]+([0-9]+)[ \t\r]*')
+TYPED = re.compile('[ \t\r]*([0-9]+)[ \t\r]+([0-9]+)[ \t\r]+([0-9]+)[ \t\r]*(?:(m)[ \t\r]*)?')
 
-LAST, FURTHER = 'base down to the last multiple of 8b', 'base further down, as the area would cross'
+LAST, FURTHER = 'base down to the last multiple', 'base further down, as the area would cross'
 ABOVE = ', from above 32767'
 WAYS = ('base kept', LAST, LAST + ABOVE, FURTHER, FURTHER + ABOVE)
 SIZES = ('block size kept', 'block size becomes 32', 'ports kept', 'ports become 1', 'ports become 128')
-KINDS = ('accepted', 'please', *(f'refused, {code}' for code in mux2.SETUP_ROWS), *SIZES, *WAYS)
 
+
+def of_kind(kind, what):
+    """The name of a kind of answer to a setting of this kind of unit."""
+    return f'{mux2.KIND_NAMES[kind]}: {what}'
+
+
+KINDS = ('please', *(
+    of_kind(kind, what) for kind in LETTERS.values()
+    for what in ('accepted', *(f'refused, {code}' for code in mux2.SETUP_ROWS), *SIZES, *WAYS)
+    if (kind, what) != (mux2.EDS_8, 'refused, 12')))    # row 12 is a Mighty Mux's alone
 
 # What the program must say.
 
-def refusal(b, ports, base):
+UNIT = mux2.Mux2()                          # setup touches no old record, so one unit answers for all
+
+
+def refusal(b, ports, base, kind=mux2.EDS_8):
     """What setup says of a setting."""
-    return mux2.Mux2().setup(b, ports, base)[0]
+    return UNIT.setup(b, ports, base, kind=kind)[0]
 
 
-def numbers(line):
-    """The three numbers typed, or None. Zeros in front go first, so that no length is too long to read."""
+def setting(line):
+    """The three numbers typed and the kind, or None. Zeros in front go first, so that no length is too long to read."""
     typed = TYPED.fullmatch(line)
     if typed is None:
         return None
-    digits = [word.lstrip('0') or '0' for word in typed.groups()]
+    *words, letter = typed.groups()
+    digits = [word.lstrip('0') or '0' for word in words]
     if any(len(word) > len(str(MOST)) or int(word) > MOST for word in digits):
         return None
-    return [int(word) for word in digits]
+    return [*map(int, digits), LETTERS[letter]]
 
 
 def mended_sizes(b, ports):
@@ -80,28 +100,32 @@ def mended_sizes(b, ports):
     return block, ports, (how, 'ports kept')
 
 
-def mended_base(b, ports, base):
-    """The largest base at or below the typed one that setup takes, for sizes that are right, and how it was found."""
-    if refusal(b, ports, base) == 0:
+def mended_base(b, ports, base, kind=mux2.EDS_8):
+    """The largest base at or below the typed one that setup takes, for sizes that are right, and how it was found: by a search
+    downwards. The last multiple is that of 8b, and of a Mighty Mux of 256."""
+    if refusal(b, ports, base, kind) == 0:
         return base, 'base kept'
-    eight = 8 * b
-    last = min(base, HIGHEST) // eight * eight
-    lower = next(a for a in range(last, -1, -eight) if refusal(b, ports, a) == 0)
-    return lower, (LAST if lower == last else FURTHER) + (ABOVE if base > HIGHEST else '')
+    top = min(base, HIGHEST)
+    lower = next(a for a in range(top // LEAST * LEAST, -1, -LEAST) if refusal(b, ports, a, kind) == 0)
+    multiple = 256 if kind == mux2.MIGHTY_MUX else 8 * b
+    return lower, (LAST if top - lower < multiple else FURTHER) + (ABOVE if base > HIGHEST else '')
 
 
+@lru_cache(maxsize=None)
 def answer_and_kinds(line):
     """The lines that answer one typed line, without the sentence, and the kinds of answer they are."""
-    typed = numbers(line)
+    typed = setting(line)
     if typed is None:
         return [PLEASE], ('please',)
-    b, ports, base = typed
-    code = refusal(b, ports, base)
+    b, ports, base, kind = typed
+    code = refusal(b, ports, base, kind)
     if code == 0:
-        return ['accepted'], ('accepted',)
+        return ['accepted'], (of_kind(kind, 'accepted'),)
     b, ports, sizes = mended_sizes(b, ports)
-    base, way = mended_base(b, ports, base)
-    return [f'refused, {code}:', f'{ADVICE}{b} {ports} {base}'], (f'refused, {code}', *sizes, way)
+    base, way = mended_base(b, ports, base, kind)
+    letter = ' m' if kind == mux2.MIGHTY_MUX else ''
+    return ([f'refused, {code}:', f'{ADVICE}{b} {ports} {base}{letter}'],
+            tuple(of_kind(kind, what) for what in (f'refused, {code}', *sizes, way)))
 
 
 def answer(line):
@@ -132,7 +156,7 @@ def bad_advice(line):
     """What is wrong with a setting that one is told to type, whatever was expected, or None."""
     if line is None or not line.startswith(ADVICE):
         return None
-    typed = numbers(line[len(ADVICE):])
+    typed = setting(line[len(ADVICE):])
     if typed is None:
         return 'no setting is told'
     code = refusal(*typed)
@@ -192,6 +216,17 @@ SHORT_TEXTS = (
     '8 1',                                  # not yet three
     '8 1 64 ',
     '8 1 64\n',                             # the newline is the last byte: nothing is left to answer
+    '8 8 256 m',                            # a Mighty Mux's
+    '8 8 256m',
+    '8 8 256 m ',
+    '8 8 256\tm\r',
+    '8 8 64 m',                             # refused, 12
+    '8 8 m',                                # not yet three numbers
+    'm',
+    '8 8 256 mm',
+    '8 8 256 m\n',
+    '8 8 256 m\n8 8 64',                    # an EDS-8's after a Mighty Mux's
+    '8 8 256 m\n  ',
 )
 
 
@@ -201,6 +236,13 @@ def edges(b):
     near = (0, eight, area, 2 * area, 32768 - area, 32768, 65536, 2147483648, MOST + 1)
     bases = {edge + by for edge in near for by in (-eight, -1, 0, 1, eight)}
     return sorted(base for base in bases | {4 * b, area - b, 32767, 33000, MOST} if 0 <= base <= MOST)
+
+
+def mighty_edges(b):
+    """Bases at which the answer of a Mighty Mux's setup may change, beside those."""
+    near = (0, 256, 512, 128 * b, 32768, 65536, MOST + 1)
+    bases = {edge + by for edge in near for by in (-256, -8 * b, -1, 0, 1, 64, 8 * b, 192)}
+    return sorted(base for base in bases | {400, 1600, 15360, 15424, 33024, MOST} if 0 <= base <= MOST)
 
 
 class Typist:
@@ -341,13 +383,93 @@ class Typist:
         for sign in '\b\v\f\x0e\x1f!\x89\x8d':      # next to a blank by its number, or one without its top bit
             yield from (sign + '8\t1\t64\r', '8\t1' + sign + '64\r', '8\t1\t64\r' + sign, '8\t' + sign + '\r1 64')
 
+    def lettered(self, lines):
+        """The same lines for a Mighty Mux, with one blank or none before the letter."""
+        for line in lines:
+            yield line + self.one_of((' m', ' m', ' m', 'm', '\tm'))
+
+    def mighty_edge_lines(self):
+        """Each block size at each edge of a Mighty Mux, for both kinds, with ports that just fit and one more."""
+        for b in mux2.BLOCKS:
+            for base in mighty_edges(b):
+                room = 128 - base // b % 128
+                for ports in (1, room, room + 1):
+                    yield self.plain(b, ports, base) + ' m'
+                yield self.plain(b, self.one_of((1, 8, room)), base)
+
+    def mighty_pair_lines(self):
+        """Row 12 beside each other fault, and by itself, and next to what is taken."""
+        for numbers in ('8 8 64', '16 8 128', '8 1 192', '8 8 320', '8 1 960', '8 1 32704', '16 1 32640',
+                        '8 120 64', '8 121 64', '16 121 128', '8 1 32832', '16 1 32896', '8 128 32832', '8 0 64',
+                        '8 129 64', '16 0 128', '7 1 56', '24 1 192', '7 0 56', '24 128 192', '8 8 32', '8 8 65',
+                        '16 8 64', '32 8 128', '32 8 64', '8 8 257', '8 8 100', '8 8 400', '8 8 1600', '16 8 3200',
+                        '8 96 256', '8 97 256', '16 112 256', '16 113 256', '32 120 256', '32 121 256', '8 8 256',
+                        '8 8 512', '8 128 0', '8 32 32512', '8 33 32512', '8 8 32767', '8 8 32768', '8 8 33024',
+                        '8 33 33024', '8 8 4294967040', '8 8 4294967232', '32 32 15360', '8 8 15424'):
+            yield numbers + ' m'
+            yield numbers
+
+    def spaced_letters(self):
+        """The letter with every sort of blanks before and after it, and many."""
+        for blank in ('', ' ', '\t', '\r', '  ', ' \t', '\r ', '\t\r', '\r\t \t\r', ' ' * 255, '\t' * 256, '\r' * 5000):
+            for after in ('', ' ', '\t', '\r', ' \t\r', '\r\r'):
+                yield '8 8 256' + blank + 'm' + after
+                yield '8 8 64' + blank + 'm' + after
+            yield from (blank + '8\t8\r256m', '8 8 256m' + blank, '8 8' + blank + 'm', blank + 'm', 'm' + blank,
+                        '8 8 256' + blank + 'm' + blank + 'm', '8 8 256' + blank + 'm' + blank + '5',
+                        '8 8 256' + blank + 'm' + blank + '0', '8 8' + blank + 'm' + blank + '256', 'm' + blank + '8 8 256',
+                        '8' + blank + 'm' + blank + '8 256')
+        for zeros in (1, 12, 300):
+            yield '0' * zeros + '8 8 ' + '0' * zeros + '256m'
+
+    def wrong_letters(self):
+        """Another byte in the letter's place, before it and after it; the letter in every other place."""
+        for code in range(256):
+            if chr(code) not in '\n':
+                yield from ('8 8 256 ' + chr(code), '8 8 256 m' + chr(code), '8 8 256' + chr(code) + 'm')
+        yield from ('m', 'm ', ' m', 'mm', 'm 8 8 256', 'm8 8 256', '8m 8 256', '8 m 8 256', '8 8m 256', '8 8 m 256', '8 8 m256',
+                    '8m8 256', '8 8m256', '8 8 2m56', '8 8 m', '8 8m', '8 m', '8m', '8 8 256 mm', '8 8 256 m m', '8 8 256mm',
+                    '8 8 256m m', '8 8 256 m 5', '8 8 256m5', '8 8 256 m 0', '8 8 256 M', '8 8 256M', '8 8 256 mM', '8 8 256 Mm',
+                    '8 8 256 m.', '8 8 256 -m', '8 8 256,m', '8 8 256, m', '8 8 256 "m"', '8 8 256 mighty', '8 8 256 Mighty Mux',
+                    '8 8 256 m 8 8 256 m', '8 8 256 m 8 8 256', '8 8 256 8 m', '8 8 256 0m', '-8 8 256 m', '8 8 +256 m')
+        for written in ('\uff4d', '\u043c', '\u1e41'):     # letters of other scripts, and one with a dot
+            yield '8 8 256 ' + written.encode().decode('latin-1')
+
+    def too_big_lettered(self):
+        """Numbers that do not fit, and the largest that do, before the letter."""
+        for place in range(3):
+            for big in ('4294967295', '4294967296', '4294967552', '18446744073709551872', '9' * 11, '8' * 300):
+                words = ['8', '8', '256']
+                words[place] = big
+                yield ' '.join(words) + ' m'
+                yield ' '.join(words) + 'm'
+
+    def mighty_lines(self):
+        """The lines for a Mighty Mux; those for an EDS-8 are written before them, by the numbers that they always had."""
+        yield from self.lettered([*self.edge_lines(), *self.wrong_block_lines(), *self.pair_lines(), *self.random_lines(300),
+                                  *self.crossing_lines()])
+        yield from self.mighty_edge_lines()
+        yield from self.mighty_pair_lines()
+        yield from self.spaced_letters()
+        yield from self.wrong_letters()
+        yield from self.too_big_lettered()
+
+    def nothing_carried_over(self):
+        """After each sort of line with the letter one without it, which a Mighty Mux would be refused, and the other way round."""
+        for line in ('8 8 256 m', '8 8 256m', '8 8 64 m', '7 0 56 m', '8 129 64 m', '8 1 32832 m', '8 97 256 m', '8 8 m', 'm',
+                     '8 8 256 mm', '8 8 256 m 5', '8 8 4294967296 m', '8 8 256 M'):
+            yield from (line, '8 8 64', line, '', '8 8 64', line, '16 8 384', line, '8 121 64')
+        for line in ('8 8 64', '8 8 65', '8 8', ''):
+            yield from (line, '8 8 64 m', line, '8 8 64m')
+
     def lines(self):
-        """All the lines, mixed, so that each kind comes after each other kind."""
+        """All the lines, mixed, so that each kind comes after each other kind; then some in their order."""
         lines = [*self.edge_lines(), *self.wrong_block_lines(), *self.pair_lines(), *self.random_lines(500),
                  *self.spaced_lines(150), *self.too_big_lines(), *self.ill_formed_lines(), *self.crossing_lines(),
                  *self.blank_lines()]
+        lines += self.mighty_lines()
         keys = [(self.random(), number) for number in range(len(lines))]
-        return [lines[number] for _, number in sorted(keys)]
+        return [lines[number] for _, number in sorted(keys)] + list(self.nothing_carried_over())
 
 
 def fixed_text():

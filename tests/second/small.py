@@ -2,8 +2,8 @@
 
     small.py FOLDER
 
-A short session of sets of special codes, one of the stack, the first orders of four sessions of the fixed set, each with a
-whole digest and an end, and the session of the speeds; every order is in them.
+A short session of sets of special codes, one of the stack and of bases for one kind alone, the first orders of four sessions
+of the fixed set, each with a whole digest and an end, and the session of the speeds; every order is in them.
 """
 
 import pathlib

@@ -1,10 +1,11 @@
-"""Checks the second program by document 01's settled examples, K1, K2, K4, K5, K6 and K10 of document 02 and the manuals.
+"""Checks the second program by document 01's settled examples, K1, K2, K4 to K7 and K10 of document 02 and the manuals.
 
 It also checks that the digests are those of FORMAT.md, that a written session
 can be read and driven again, that compare.py finds a changed line and that
 settings2.py finds a wrong answer. Exit status 0 only where every check passes.
 """
 
+import bisect
 import re
 import sys
 import traceback
@@ -33,8 +34,8 @@ def unit(b=8, ports=8, base=64, control=0o60, **given):
     return mux
 
 
-def setup_code(b, ports, base):
-    return Mux2().setup(b, ports, base)[0]
+def setup_code(b, ports, base, **given):
+    return Mux2().setup(b, ports, base, **given)[0]
 
 
 def give(mux, p, byte, parity=0, brk=0):
@@ -186,7 +187,7 @@ def test_high_base():
 
 
 def test_order_of_11():
-    assert list(mux2.SETUP_ROWS) == [1, 2, 3, 11, 4]
+    assert list(mux2.SETUP_ROWS) == [1, 2, 3, 11, 12, 4]
     for b in mux2.BLOCKS:
         crosses = 32768 + 128 * b - 8 * b               # with 9 ports
         for base in (32768, crosses):
@@ -212,7 +213,7 @@ def test_high_base_is_unsound():
 class AsItWas(Mux2):
     """Document 01's rows, for one comparison alone: 3 stood for both faults of a base, and 5 was asked."""
 
-    def setup_refusal(self, b, ports, base):
+    def setup_refusal(self, b, ports, base, kind):
         if b not in (8, 16, 32):
             return 1
         if ports == 0 or ports > 128:
@@ -939,7 +940,7 @@ def test_random_sessions_choose_sets():
 
 EDS_8, MIGHTY_MUX = 0, 1
 KINDS_OF_UNIT = (EDS_8, MIGHTY_MUX)
-PLACES = ((8, 48, 64), (16, 64, 2176), (32, 41, 14848), (32, 128, 4096), (8, 8, 0))     # settings of units with stacks
+PLACES = ((8, 48, 256), (16, 64, 2304), (32, 41, 14848), (32, 128, 4096), (8, 8, 0))    # settings of units with stacks
 
 
 def mighty(b=32, ports=32, base=15360, **fields):
@@ -1003,7 +1004,7 @@ def test_fresh_units_of_both_kinds():
         for codes in (SET_1974, DICTIONARY):
             mux = Mux2()
             mux.record = mighty(fill=3, lost=1, irq=1, status=32768, stack=words(40)).record
-            code, made = mux.setup(8, 8, 64, codes, kind)
+            code, made = mux.setup(8, 8, 256, codes, kind)
             assert code == 0 and made.kind == kind and made.codes == tuple(codes)
             assert (made.irq, made.status, made.lost, made.fill, made.stack) == (0, 0, 0, 0, (0,) * 40)
             assert made.runs == made.clock == made.pos == 0 and made.port == [mux2.FRESH_PORT] * 128
@@ -1012,17 +1013,18 @@ def test_fresh_units_of_both_kinds():
             assert mux.dia() == (0, 0) and mux.dias() == (0, 0) and mux.start() == 0 and side(mux) == (0, 0, 0, 0, (0,) * 40)
 
 
-def test_kind_changes_no_refusal():
+def test_kind_changes_no_other_refusal():
     mux, seen = Mux2(), set()
     for setting in settings():
         code, record = mux.setup(*setting, SET_1974, EDS_8)
         other, made = mux.setup(*setting, SET_1974, MIGHTY_MUX)
-        assert code == other and {**vars(made), 'kind': EDS_8} == vars(record)
-        assert made.kind == (MIGHTY_MUX if code == 0 else EDS_8)
-        if code:
+        if other != 12:                                 # K7's
+            assert code == other and {**vars(made), 'kind': EDS_8} == vars(record)
+        assert made.kind == (MIGHTY_MUX if other == 0 else EDS_8)
+        if other:
             assert vars(made) == vars(mux2.Record())
-        seen.add(code)
-    assert seen == {0, 1, 2, 3, 4, 11}
+        seen.add((code, other))
+    assert seen == {(code, code) for code in (0, 1, 2, 3, 4, 11)} | {(0, 12), (4, 12)}
 
 
 def test_stacked_status_words():
@@ -1044,8 +1046,8 @@ def test_stacked_status_words():
 
 
 def test_entries_have_the_address():
-    for b, base, first in ((8, 0, 0), (8, 64, 8), (8, 32704, 120), (16, 128, 8), (16, 2176, 8), (16, 32640, 120), (32, 256, 8),
-                           (32, 14848, 80), (32, 15360, 96), (32, 32512, 120), (8, 1024, 0)):
+    for b, base, first in ((8, 0, 0), (8, 256, 32), (8, 768, 96), (8, 32512, 96), (16, 256, 16), (16, 2304, 16),
+                           (16, 32512, 112), (32, 256, 8), (32, 14848, 80), (32, 15360, 96), (32, 32512, 120), (8, 1024, 0)):
         mux = mighty(b, 8, base)
         for p in range(8):
             input_done(mux)
@@ -1056,20 +1058,20 @@ def test_entries_have_the_address():
 
 def test_every_end_of_a_service_is_queued():
     for codes, character in ((SET_1974, 0o15), (DICTIONARY, 0o101)):
-        mux = unit(ports=1, codes=codes, kind=MIGHTY_MUX)
+        mux = unit(ports=1, base=256, codes=codes, kind=MIGHTY_MUX)             # port 0 has address 32
         set_buffer(mux, INPUT, 2000, 2001, bits=0o30000)            # a special code, or the end of the buffer
-        assert give(mux, 0, character).raised == 1 and mux.dias() == (0, 8192 + 256)
+        assert give(mux, 0, character).raised == 1 and mux.dias() == (0, 8192 + 1024)
         set_buffer(mux, OUTPUT, 2000, 2001)
         mux.transmitted(0)
-        assert mux.inspect()[1].raised == 1 and mux.dias() == (0, 4096 + 256)
+        assert mux.inspect()[1].raised == 1 and mux.dias() == (0, 4096 + 1024)
         mux.transmitted(0)
         block(mux, ocw=0)
         mux.device_status(0, 1)                         # bit 7 becomes 1
-        assert mux.inspect()[1].raised == 1 and side(mux) == (1, 0, 0, 1, places(4096 + 256))
+        assert mux.inspect()[1].raised == 1 and side(mux) == (1, 0, 0, 1, places(4096 + 1024))
         for icw, ocw in ((0o20000, 0), (0o100000, 0o100000), (0o120000, 0o140000)):     # not done, or done before
             block(mux, icw=icw, ocw=ocw + 2048)
             assert give(mux, 0, 0o101).raised == 0 and mux.inspect()[1].raised == 0
-            assert side(mux) == (1, 0, 0, 1, places(4096 + 256))
+            assert side(mux) == (1, 0, 0, 1, places(4096 + 1024))
 
 
 def test_first_in_first_out():
@@ -1089,7 +1091,7 @@ def test_first_in_first_out():
 
 def test_an_interrupt_that_finds_40():
     for done in (input_done, output_done):
-        mux = mighty(8, 48, 64)
+        mux = mighty(8, 48, 256)
         for _ in range(40):
             input_done(mux)
         full = mux.record.stack
@@ -1226,7 +1228,7 @@ def test_no_other_stack_is_unsound():
 
 def test_sweeps_and_lost_interrupts():
     for fill, lost in ((39, 0), (40, 1)):
-        mux = mighty(8, 6, 64, fill=fill, stack=places(*words(fill)), irq=1)
+        mux = mighty(8, 6, 256, fill=fill, stack=places(*words(fill)), irq=1)
         mux.places, mux.lent_places = [9] * 10, 10
         for p, ocw in enumerate((0o20000, 0, 0o60102, 0o60103, 0o40060, 0)):
             mux.host_write(mux.block_of(p) + 1, ocw)
@@ -1240,7 +1242,7 @@ def test_sweeps_and_lost_interrupts():
         mux.arrival(5, 65, 0, 0)
         assert mux.sweep(10) == (0, 1, 0) and mux.sweep(10) == (0, 1, 0) and mux.memory.word(mux.block_of(5)) == 0o100101
         assert side(mux)[:4] == (1, 0, 1, 40) and mux.record.stack[:fill] == words(fill)
-    mux = mighty(8, 2, 64)
+    mux = mighty(8, 2, 256)
     mux.lent_places = 2
     for number in range(1, 43):                         # each sweep stops at one, queued or lost
         for p in range(2):
@@ -1318,20 +1320,20 @@ def test_removed_and_stacked_are_those_accepted():
 
 def test_a_kind_is_kept():
     for kind in KINDS_OF_UNIT:
-        mux = unit(ports=1, kind=kind)
+        mux = unit(ports=1, base=256, kind=kind)
         mux.lent_places = 10
         for name, call in calls_of_every_kind(mux):
             call()
             assert mux.record.kind == kind, name
-        mux.setup(8, 1, 64, SET_1974, 1 - kind)
-        mux.setup(8, 0, 64, SET_1974, 1 - kind)
+        mux.setup(8, 1, 256, SET_1974, 1 - kind)
+        mux.setup(8, 0, 256, SET_1974, 1 - kind)
         assert mux.record.kind == kind
 
 
 def test_other_calls_leave_the_stack():
     for fields in poked_records():
         if fields['fill'] in (2, 40) and fields['status'] == 65535:
-            mux = mighty(8, 2, 64, **fields)
+            mux = mighty(8, 2, 256, **fields)
             for call in (lambda: mux.arrival(0, 65, 1, 1), lambda: mux.arrival(0, 66, 0, 0), lambda: mux.transmitted(0),
                          lambda: mux.device_status(0, 1), mux.iopls, mux.dob, mux.inspect, lambda: mux.sweep(0), mux.doc,
                          lambda: mux.sweep(0), lambda: mux.arrival(2, 65, 0, 0), lambda: mux.sweep(9), lambda: mux.speed(5)):
@@ -1350,10 +1352,22 @@ def seen_of_both_kinds(lines):
         yield [number for place, number in enumerate(numbers) if place not in left_out]
 
 
+class OnMultiples(sessions.Author):
+    """Writes sessions with no base for an EDS-8 alone (02, K7): one that it would give or poke is lowered to a multiple of 256."""
+
+    def do(self, *order):
+        if order[0] == drive.SETUP and order[1] in (8, 16) and order[3] % (8 * order[1]) == 0:
+            order = (*order[:3], order[3] // 256 * 256, order[4])
+        elif order[:2] == (drive.POKE, 2) and self.unit.block in (8, 16) and order[2] % (8 * self.unit.block) == 0:
+            order = (*order[:2], order[2] // 256 * 256)
+        super().do(*order)
+
+
 def test_all_else_is_the_same_for_both_kinds():
     for number in range(len(sessions.KINDS)):
-        orders = [order for order in sessions.write_session(6, number)[0].orders
-                  if order[0] != drive.KIND and order[:2] != (drive.POKE, 8)]
+        author = OnMultiples(6, number)
+        author.session(900)
+        orders = [order for order in author.orders if order[0] != drive.KIND and order[:2] != (drive.POKE, 8)]
         both = [[line for line in lines_of(Mux2, [(drive.KIND, kind), *orders]) if line is not None] for kind in KINDS_OF_UNIT]
         assert both[0] != both[1] and len(both[0]) == len(both[1]) > 500
         assert list(seen_of_both_kinds(both[0])) == list(seen_of_both_kinds(both[1]))
@@ -1365,11 +1379,11 @@ def test_orders_of_kinds():
     def drive_all(*orders):
         return [line for line in map(driver.drive, orders) if line is not None]
 
-    setup, dia = (drive.SETUP, 8, 1, 64, 0), (drive.DIA,)
+    setup, dia = (drive.SETUP, 8, 1, 256, 0), (drive.DIA,)
     assert driver.kind == driver.mux.record.kind == EDS_8 and drive.KIND == 15 and drive.POKE_STACK == 16
     assert not drive_all((drive.KIND, 1)) and driver.mux.record.kind == EDS_8
     setups = drive_all(setup, (drive.SETUP, 8, 0, 64, 0), (drive.SETUP, 8, 0, 64, 1))
-    fresh = [8, 1, 64, 0, 0, 0, 0, 0, 1, 0, 0] + [0] * 40 + SET_1974 + [0, 0, 0, 0, 0, 1, 0, 1, 0] * 128
+    fresh = [8, 1, 256, 0, 0, 0, 0, 0, 1, 0, 0] + [0] * 40 + SET_1974 + [0, 0, 0, 0, 0, 1, 0, 1, 0] * 128
     zeros = drive.digest([0] * 1331)
     assert len(fresh) == 1331 and setups[0] == f'1 0 {drive.digest(fresh)} {drive.digest(fresh)}'
     assert setups[1:] == [f'1 2 {zeros} {drive.digest(fresh)}', f'1 2 {zeros} {zeros}'] and driver.kind == MIGHTY_MUX
@@ -1416,10 +1430,13 @@ def test_both_kinds_meet_the_same():
 
 def test_random_sessions_choose_kinds():
     counts, pokes, places_poked = dict.fromkeys(KINDS_OF_UNIT, 0), dict.fromkeys((8, 9, 10), 0), 0
+    of_bases = dict.fromkeys(('setup refused 12', 'unsound: setup gives 12', 'dia accepted at a base for an EDS-8 alone'), 0)
     for number in range(2 * len(sessions.KINDS)):
         author, reached = sessions.write_session(sessions.SEED, number)
         for kind in KINDS_OF_UNIT:
             counts[kind] += reached[f'setup accepted as {mux2.KIND_NAMES[kind]}']
+        for branch in of_bases:
+            of_bases[branch] += reached[branch]
         for order in author.orders:
             places_poked += order[0] == drive.POKE_STACK
             if order[0] == drive.POKE and order[1] in pokes:
@@ -1428,6 +1445,7 @@ def test_random_sessions_choose_kinds():
         first = author.orders.index(kinds[0]) if kinds else 500
         assert first > 300                              # the first part has EDS-8s alone, and nothing of a stack
     assert counts[MIGHTY_MUX] > 15 and counts[EDS_8] > 24 and min(pokes.values()) > 2 and places_poked > 100
+    assert min(of_bases.values()) > 2                   # K7's bases as well
 
 
 def test_wrong_stacks_fail():
@@ -1440,11 +1458,10 @@ def test_wrong_stacks_fail():
     for check, names in (
             (test_fresh_units_of_both_kinds, [
                 name for name in named('setup gives') if 'in blocks' not in name and 'one port' not in name]),
-            (test_kind_changes_no_refusal, (
+            (test_kind_changes_no_other_refusal, (
                 'refused setup keeps the kind', 'refused setup gives a Mighty Mux', 'setup gives an EDS-8',
                 'setup gives a Mighty Mux', 'setup gives an EDS-8 in blocks of 32', 'setup gives an EDS-8 of one port',
-                'setup of a Mighty Mux refused',
-                "a Mighty Mux's base stricter", 'setup of a Mighty Mux asks no row 3')),
+                'setup of a Mighty Mux refused', 'setup of a Mighty Mux asks no row 3')),
             (test_stacked_status_words, (
                 'last in, first out', 'inputs have the port number', 'outputs have no bit 2 or 3', 'DIA clears bit 0',
                 'DIAS does START before reading', 'DIAS does no START', 'START keeps bit 0', 'tick pushes an entry',
@@ -1506,6 +1523,190 @@ def test_wrong_stacks_fail():
             assert failing(check, mutants.program(*found[name])), (check.__name__, name)
 
 
+# Document 02, K7.
+
+SMALL_BASES = ((8, 64), (8, 128), (8, 192), (8, 320), (8, 960), (8, 32576), (8, 32704), (16, 128), (16, 384), (16, 896),
+               (16, 32640))                             # block sizes and bases for an EDS-8 alone
+
+
+def both_codes(b, ports, base):
+    """What setup says of these numbers for an EDS-8, and for a Mighty Mux."""
+    return tuple(setup_code(b, ports, base, kind=kind) for kind in KINDS_OF_UNIT)
+
+
+def test_bases_of_a_mighty_mux():
+    assert both_codes(8, 8, 64) == (0, 12) and both_codes(16, 8, 128) == (0, 12) and both_codes(8, 1, 32832) == (11, 11)
+    assert both_codes(8, 96, 256) == (0, 0) and both_codes(8, 97, 256) == (4, 4)
+    assert both_codes(8, 120, 64) == (0, 12) and both_codes(8, 121, 64) == (4, 12)
+    assert both_codes(32, 32, 0o36000) == (0, 0) and both_codes(32, 33, 0o36000) == (4, 4)      # the standard one (000, 3.7.7)
+    assert both_codes(8, 8, 0o66000) == (0, 0) and both_codes(8, 8, 0o36100) == (0, 12)         # the manual's example
+    assert both_codes(8, 8, 100) == both_codes(8, 8, 32) == both_codes(16, 8, 64) == both_codes(32, 8, 128) == (3, 3)
+    assert both_codes(8, 8, 400) == (3, 3) and both_codes(8, 8, 1600) == (0, 12)                # octal 400, not decimal
+    for b in mux2.BLOCKS:
+        for base in range(0, 32768, 64):
+            eds_8, mighty_mux = both_codes(b, 1, base)
+            assert eds_8 == (3 if base % (8 * b) else 0)
+            assert mighty_mux == (3 if base % (8 * b) else 12 if base % 256 else 0) and (b < 32 or mighty_mux != 12)
+
+
+def rows_of_a_mighty_mux(b, ports, base):
+    """The numbers of all rows that apply to a Mighty Mux, in their order, in other words than the second program's; row 3 is
+    asked only of a block size that divides."""
+    pages, left = divmod(base, 256)
+    return [number for number, applies in (
+        (1, not (b in (8, 16, 32))), (2, not 0 < ports < 129), (3, b and base % b + base // b % 8), (11, base >= 1 << 15),
+        (12, left), (4, b and base % (128 * b) + ports * b > 128 * b)) if applies]
+
+
+def test_order_of_12():
+    met = {}
+    for b, ports, base in settings():
+        for near in (base, base // 64 * 64, base // 256 * 256):
+            rows = rows_of_a_mighty_mux(b, ports, near)
+            assert setup_code(b, ports, near, kind=MIGHTY_MUX) == (rows[0] if rows else 0)
+            met[tuple(rows)] = met.get(tuple(rows), 0) + 1
+    # 12 beside each other row, and both sides of 3, which never comes without it in blocks of 8, 16 or 32.
+    for rows in ((12,), (12, 4), (11, 12), (11, 12, 4), (3, 12), (3, 12, 4), (3, 11, 12), (2, 12), (2, 11, 12), (2, 3, 12),
+                 (2, 12, 4), (1, 12), (1, 2, 12), (1, 3, 12), (1, 11, 12), (1, 2, 3, 11, 12, 4), (11,), (4,), ()):
+        assert met.get(rows), rows
+    assert not [rows for rows in met if rows[:1] == (3,) and 12 not in rows]
+
+
+def test_an_eds_8_answers_as_before():
+    mux = Mux2()
+    for b, ports, base in settings():
+        code, record = mux.setup(b, ports, base)
+        assert code == first_row(b, ports, base) != 12
+        mux.record.block, mux.record.ports, mux.record.base = b, ports, base
+        assert mux.dia() == ((6, 0) if code else (0, 0)) and record.kind == EDS_8
+
+
+def refuses_everything(mux):
+    """Whether every call is refused with 6, before any other number, and changes nothing."""
+    before, words = {**vars(mux.record), 'port': list(mux.record.port)}, bytes(mux.memory.halves)
+    codes = [mux.arrival(0, 65, 0, 0), mux.arrival(99, 65, 0, 0), mux.transmitted(0), mux.transmitted(99),
+             mux.device_status(0, 1), mux.reset(), mux.iopls(), mux.start(), mux.doc(), mux.dob(), mux.tick()]
+    answers = [mux.dia(), mux.dias(), mux.sweep(0)[:2], mux.sweep(1)[:2], mux.sweep(4097)[:2]]
+    mux.memory.lent = 5
+    answers.append(mux.sweep(0)[:2])
+    seen = [mux.inspect()]
+    mux.memory.lent = 32768
+    seen.append(mux.inspect())
+    assert vars(mux.record) == before and bytes(mux.memory.halves) == words
+    return set(codes) == {6} and set(answers) == {(6, 0)} and set(seen) == {(6, Answer(NOTHING, 0, 0, 0, 0))}
+
+
+def takes_everything(mux):
+    """Whether every call is accepted, and an input and an output are served."""
+    mux.lent_places = 1
+    codes = [mux.arrival(7, 65, 0, 0), mux.transmitted(0), mux.device_status(0, 0), mux.iopls(), mux.tick(), mux.dob(), mux.doc(),
+             mux.dia()[0], mux.start(), mux.dias()[0]]
+    if any(codes):
+        return False
+    input_done(mux)
+    output_done(mux)
+    return mux.sweep(1)[0] == mux.reset() == mux.doc() == 0
+
+
+def test_such_a_base_is_unsound_in_a_mighty_mux():
+    for b, base in SMALL_BASES:
+        for runs in (1, 0):
+            mux = mighty(b, 8, 256, status=5, irq=1, fill=3, stack=words(40), runs=runs)
+            mux.record.base = base
+            assert refuses_everything(mux)
+            mux.record.kind = EDS_8                     # sound with the other kind
+            assert takes_everything(mux)
+            mux.record.kind = MIGHTY_MUX
+            assert refuses_everything(mux)
+            mux.record.base = base // 256 * 256         # and with a multiple of octal 400
+            assert takes_everything(mux)
+            assert all(mux.reached[f'{call} refused 6 for the base of a Mighty Mux alone'] for call in mux2.CALLS)
+
+
+def test_a_poked_kind_at_such_a_base():
+    for b in mux2.BLOCKS:
+        for base in (0, 256, 512, 768, 32512, *[base for of, base in SMALL_BASES if of == b]):
+            mux = unit(b, 8, base)                      # an EDS-8
+            assert takes_everything(mux)
+            mux.record.kind = MIGHTY_MUX
+            assert takes_everything(mux) if base % 256 == 0 else refuses_everything(mux)
+            mux.record.kind = EDS_8
+            assert takes_everything(mux)
+
+
+def test_setup_reads_the_kind_that_it_is_given():
+    for b, base in SMALL_BASES:
+        for of_unit in KINDS_OF_UNIT:
+            mux = unit(b, 8, 256, kind=of_unit)
+            input_done(mux)
+            before = {**vars(mux.record), 'port': list(mux.record.port)}
+            for kind in (MIGHTY_MUX, EDS_8, MIGHTY_MUX):
+                code, made = mux.setup(b, 8, base, SET_1974, kind)
+                assert code == (12 if kind == MIGHTY_MUX else 0) and vars(mux.record) == before
+                assert vars(made) == vars(mux2.Record()) if code else (made.base, made.kind) == (base, EDS_8)
+
+
+def test_session_of_the_bases_of_a_mighty_mux():
+    author, reached = sessions.mighty_bases_session()
+    assert author.kind == sessions.OF_THE_BASES and author.calls < 8000
+    assert [branch for branch in mux2.BASE_BRANCHES if not reached[branch]] == []
+    kind, seen = EDS_8, {}
+    for order in author.orders:
+        if order[0] == drive.KIND:
+            kind = order[1]
+        elif order[0] == drive.SETUP:
+            seen.setdefault((kind, order[1], order[4]), set()).add(order[1:4])
+    for b in mux2.BLOCKS:
+        for of_unit in KINDS_OF_UNIT:
+            settings_seen = seen[of_unit, b, 0] | seen[of_unit, b, 1]
+            assert {base for _, _, base in settings_seen} >= {0, 64, 128, 192, 256, 257, 320, 384, 512, 32512, 32704, 32767, 32768,
+                                                              32832, 33024, 2147483648, 4294967040, 4294967295}
+            assert {ports for _, ports, _ in settings_seen} >= {0, 1, 8, 96, 97, 128, 129, 4294967295}
+        rows = {tuple(rows_of_a_mighty_mux(*setting)) for setting in seen[MIGHTY_MUX, b, 0] & seen[MIGHTY_MUX, b, 1]}
+        assert rows >= {(11,), (4,), (2,), (11, 4), (2, 11), (2, 4), (3, 12), (3, 12, 4), (3, 11, 12), (2, 3, 12)}
+        assert b == 32 or rows >= {(12,), (12, 4), (11, 12), (11, 12, 4), (2, 12), (2, 11, 12)}
+    for b in sessions.OTHER_BLOCKS:
+        rows = {tuple(rows_of_a_mighty_mux(*setting)) for setting in seen[MIGHTY_MUX, b, 0]}
+        assert rows >= {(1,), (1, 3, 12), (1, 12), (1, 11, 12), (1, 2, 12), (1, 11)}
+
+
+def test_wrong_bases_fail():
+    found = {name: texts for name, *texts in mutants.BASE_MUTANTS}
+
+    def named(pattern):
+        return [name for name in found if re.search(pattern, name)]
+
+    for check, names in (
+            (test_bases_of_a_mighty_mux, [
+                '12 for both kinds', '12 never', '12 for an EDS-8 alone', *named('^12 by (octal|decimal|hexa|8b|the base|half)'),
+                *named('^12 only (above|below|in|elsewhere)'), *named('^12 also (at|in)'),
+                *named('^12 given as'), '12 asked after 4', '12 asked before 11', '12 asked before 3', '3 stricter for a Mighty Mux',
+                '12 by the end of the area', '12 by the last block', 'such a base lowered', 'such a unit set up as an EDS-8',
+                '12 given for 3', '12 given for 4', '12 given for 11', '12 given for 3, in blocks of 32',
+                *named('^setup takes every unit for (an EDS-8|a Mighty Mux|the other kind)$')]),
+            (test_order_of_12, [
+                *named('^12 asked'), '11 asked after 12 and 4', *named('^12 given for [0-9]+$'), *named('^12 not before 4'),
+                *named('not asked of a Mighty'), *named('^(2|11|4) of a Mighty Mux'), '12 given as 3', '12 given as 11',
+                '11 and 12 exchanged', '12 only of one port', '12 only of more ports than one', '12 only of fewer ports than 128',
+                '12 also of more ports than 64']),
+            (test_an_eds_8_answers_as_before, [
+                '12 for both kinds', '12 for an EDS-8 alone', 'setup takes every unit for a Mighty Mux',
+                'soundness takes every record for a Mighty Mux', '12 given for 3, of an EDS-8',
+                'dia refused of an EDS-8 at such a base']),
+            (test_such_a_base_is_unsound_in_a_mighty_mux, [
+                '12 never', *named('^soundness (forgets|takes|refuses|by)'), *named('^12 of a record asked'),
+                *named('accepted of a Mighty Mux at such'), 'base lowered by a refused call', 'EDS-8 made by a refused call']),
+            (test_a_poked_kind_at_such_a_base, [
+                '12 never', '12 for both kinds', '12 for an EDS-8 alone', 'soundness takes every record for an EDS-8',
+                'soundness takes every record for a Mighty Mux', 'soundness asks the kind of the last setup',
+                '12 also at 768', '12 by octal 1000', *named('refused of an EDS-8 at such')]),
+            (test_setup_reads_the_kind_that_it_is_given, [
+                *named('^setup takes every unit'), *named('^12 (gives|makes|stops|empties|moves)'), 'such a base raised'])):
+        assert names
+        for name in names:
+            assert failing(check, mutants.program(*found[name])), (check.__name__, name)
+
+
 # Document 02, K10.
 
 # Setup's rows before K10, for these comparisons alone: 5 stood last.
@@ -1530,7 +1731,7 @@ def first_row(b, ports, base, left_out=()):
 class WithRow5(Mux2):
     """The second program with row 5 as it was."""
 
-    def setup_refusal(self, b, ports, base):
+    def setup_refusal(self, b, ports, base, kind):
         return first_row(b, ports, base)
 
 
@@ -1565,7 +1766,7 @@ def test_setup_answers_as_with_row_5():
 
 
 def test_5_is_no_number():
-    assert {code for codes in mux2.REFUSALS.values() for code in codes} == {1, 2, 3, 11, 4, 6, 7, 8, 9, 10}
+    assert {code for codes in mux2.REFUSALS.values() for code in codes} == {1, 2, 3, 11, 12, 4, 6, 7, 8, 9, 10}
     # `hit` fails at a branch that is not listed.
     assert not [branch for branch in mux2.BRANCHES if re.search(r'(refused|gives) 5\b', branch)]
     mux = Mux2()
@@ -1636,7 +1837,7 @@ def test_session_of_the_last_bases():
 # The caretakers' program.
 
 def test_settings_answers():
-    please = ['please type three decimal numbers below 4294967296: block size, ports, base']
+    please = ['please type three decimal numbers below 4294967296: block size, ports, base; then m for a Mighty Mux']
     for typed in ('8 1 64', ' 008  1 0064 ', '32 120 256', '8 8 32704', '0' * 9999 + '8 1 0', '8\t1\r64', '8 1 64\r',
                   '\t8 1 64', '\r8 1 64', '\r\t 8\t\t1 \r 64 \t\r'):
         assert settings2.answer(typed) == ['accepted']
@@ -1653,15 +1854,39 @@ def test_settings_answers():
         assert settings2.answer(typed) == [f'refused, {code}:', f'type instead: {advice}']
 
 
+def test_settings_answers_for_a_mighty_mux():
+    for typed in ('8 8 256 m', '8 8 256m', '8 8 256 m ', '\t8\r8 0256\tm\r', '8 8 256' + ' ' * 999 + 'm', '8 96 256 m', '8 128 0m',
+                  '16 8 256 m', '32 120 256 m', '32 32 15360 m', '8 32 32512 m', '8 8 64', '16 8 128', '8 8 256'):
+        assert settings2.answer(typed) == ['accepted']
+    for typed in ('m 8 8 256', '8 m 8 256', '8 8 m 256', '8 8 256 m 5', '8 8 256m5', '8 8 256 mm', '8 8 256 m m', '8 8 256 M',
+                  '8 8 m', 'm', '8m 8 256', '8 8 256 n', '8 8 256 l', '8 8 256 \xed', '8 8 256 -m', '8 8 256\vm', '8 8 256 m\n',
+                  '8 8 256 m\0',
+                  '8 8 4294967296 m', '4294967304 8 256m', 'mm', '8 8 2m56', '8 8 256 \uff4d'):
+        assert settings2.answer(typed) == [settings2.PLEASE]
+    for typed, code, advice in (
+            ('8 8 64 m', 12, '8 8 0'), ('16 8 128m', 12, '16 8 0'), ('8 8 320 m', 12, '8 8 256'), ('8 121 64 m', 12, '8 121 0'),
+            ('8 97 320 m', 12, '8 97 0'), ('16 8 32640 m', 12, '16 8 32512'), ('8 1 32704 m', 12, '8 1 32512'),
+            ('8 97 256 m', 4, '8 97 0'), ('32 33 15360 m', 4, '32 33 15104'), ('16 113 256 m', 4, '16 113 0'),
+            ('8 8 32 m', 3, '8 8 0'), ('8 8 300 m', 3, '8 8 256'), ('16 8 320m', 3, '16 8 256'), ('32 8 300 m', 3, '32 8 256'),
+            ('8 8 32832 m', 11, '8 8 32512'), ('8 33 4294967040 m', 11, '8 33 32256'), ('8 0 64 m', 2, '8 1 0'),
+            ('8 129 1000 m', 2, '8 128 0'), ('7 0 56 m', 1, '32 1 0'), ('7 200 4294967295\tm\r', 1, '32 128 28672'),
+            ('24 8 32704 m', 1, '32 8 32512')):
+        assert settings2.answer(typed) == [f'refused, {code}:', f'type instead: {advice} m']
+
+
 def test_settings_advice():
-    setup = Mux2().setup
-    for b in mux2.BLOCKS:
-        for ports in (1, 8, 9, 33, 100, 121, 128):
-            taken = [a for a in range(32768) if setup(b, ports, a)[0] == 0]
-            for base in (*settings2.edges(b), *range(0, 33000, 4 * b)):
-                assert settings2.mended_base(b, ports, base)[0] == max(a for a in taken if a <= base)
+    refused = Mux2().setup_refusal
+    for kind in KINDS_OF_UNIT:
+        for b in mux2.BLOCKS:
+            for ports in (1, 8, 9, 33, 100, 121, 128):
+                taken = [a for a in range(32768) if refused(b, ports, a, kind) == 0]
+                for base in (*settings2.edges(b), *settings2.mighty_edges(b), *range(0, 33000, 4 * b)):
+                    below = taken[bisect.bisect_right(taken, base) - 1]
+                    assert settings2.mended_base(b, ports, base, kind)[0] == below
     ways = [settings2.mended_base(8, *asked)[1] for asked in ((8, 64), (8, 65), (8, 32768), (9, 960), (9, 32768))]
     assert ways == list(settings2.WAYS)
+    asked = ((8, 256), (8, 320), (8, 32768), (33, 768), (33, 32768))
+    assert [settings2.mended_base(8, *each, MIGHTY_MUX)[1] for each in asked] == list(settings2.WAYS)
 
 
 # A page with a sentence for each number, one of them with a colon.
@@ -1676,7 +1901,7 @@ def printed(text):
 def test_settings_sentences():
     assert TOLD == {str(n): f'sentence {n}: its own' for n in mux2.SETUP_ROWS}
     assert settings2.full('refused, 11:', TOLD) == 'refused, 11: sentence 11: its own'
-    for line in ('accepted', settings2.PLEASE, 'type instead: 8 1 64'):
+    for line in ('accepted', settings2.PLEASE, 'type instead: 8 1 64', 'type instead: 8 1 256 m'):
         assert settings2.full(line, TOLD) == line
 
 
@@ -1688,19 +1913,30 @@ def test_settings_lines():
 
 
 def wrong_patterns():
-    """What a program may read instead, wrong about the blanks in one place alone."""
-    for place, count in enumerate('*++*'):
+    """What a program may read instead: wrong about the blanks in one place alone, or about the letter."""
+    for place, count in enumerate('*++**'):
         wrong = [f'[{signs}]{count}' for signs in (
             r' ', r' \t', r' \r', r'\t\r', r' \b\t\r', r' \t\r\v', r' \t\r\f', r' \t\r\x0e', r' \x1f\t\r', r' !\t\r',
             r' \t\r\x89', r' \t\r\x8d', r'\s', r'\0- ')]
         wrong += [f'(?: {count}|\t{count}|\r{count})', f'[ \t]{count}\r?', '[ \t\r]?' if count == '*' else '[ \t\r]']
         for blanks in wrong:
-            parts = [f'[ \t\r]{each}' for each in '*++*']
+            parts = [f'[ \t\r]{each}' for each in '*++**']
             parts[place] = blanks
-            yield '([0-9]+)'.join(parts)
+            yield '([0-9]+)'.join(parts[:4]) + f'(?:m{parts[4]})?'
+    blanks, digits = '[ \t\r]*', '[0-9]+'
+    first = f'{blanks}{digits}[ \t\r]+{digits}[ \t\r]+'
+    for letter in ('', '[ \t\r]+m', 'm', ' ?m', *(blanks + wrong for wrong in (
+            '[mM]', '[lm]', '[mn]', '[m\xed]', '[-m]', '[a-z]', 'mm?', f'm{blanks}m?', 'm[0-9]*', f'm{blanks}[0-9]*', 'm[^m]*', 'm.*',
+            'm[a-z]*', '0?m'))):
+        yield f'{first}{digits}(?:{letter})?{blanks}'
+    yield f'{first}{digits}{blanks}m{blanks}'           # the letter needed, or in another place as well
+    yield f'{first}(?:{digits}|m){blanks}(?:m{blanks})?'
+    for place in range(3):
+        words = [f'(?:m{blanks})?{digits}' if at == place else digits for at in range(3)]
+        yield blanks + '[ \t\r]+'.join(words) + f'{blanks}(?:m{blanks})?'
 
 
-def test_settings_text_tells_blanks():
+def test_settings_text_tells_lines():
     lines = settings2.answered_lines(settings2.fixed_text())
     for pattern in map(re.compile, wrong_patterns()):
         assert any(bool(pattern.fullmatch(line)) != bool(settings2.TYPED.fullmatch(line)) for line in lines), pattern
@@ -1708,10 +1944,33 @@ def test_settings_text_tells_blanks():
 
 def test_settings_text_reaches_the_end_of_memory():
     lines = settings2.answered_lines(settings2.fixed_text())
-    typed = [setting for setting in map(settings2.numbers, lines) if setting]
-    ends = {(settings2.refusal(b, ports, base), b, base + ports * b) for b, ports, base in typed}
-    for b in mux2.BLOCKS:
-        assert (0, b, 32768) in ends and (4, b, 32768 + b) in ends
+    typed = [setting for setting in map(settings2.setting, lines) if setting]
+    ends = {(kind, settings2.refusal(b, ports, base, kind), b, base + ports * b) for b, ports, base, kind in typed}
+    for kind in KINDS_OF_UNIT:
+        for b in mux2.BLOCKS:
+            assert (kind, 0, b, 32768) in ends and (kind, 4, b, 32768 + b) in ends
+
+
+def wrong_kinds():
+    """Wrong readings of the letter, as functions that give the kinds of a list of settings from the right ones."""
+    yield lambda kinds: [EDS_8] * len(kinds)
+    yield lambda kinds: [MIGHTY_MUX] * len(kinds)
+    yield lambda kinds: [1 - kind for kind in kinds]
+    yield lambda kinds: [EDS_8, *kinds[:-1]]            # the letter of the line before
+    yield lambda kinds: [max(kinds[:number + 1]) for number in range(len(kinds))]       # it stays once typed
+    yield lambda kinds: [max(kinds[max(number - 1, 0):number + 1]) for number in range(len(kinds))]     # for one more line
+
+
+def test_settings_text_tells_kinds():
+    typed = [setting for setting in map(settings2.setting, settings2.answered_lines(settings2.fixed_text())) if setting]
+    right = [settings2.refusal(*setting) for setting in typed]
+    for wrong in wrong_kinds():
+        kinds = wrong([kind for *_, kind in typed])
+        assert [settings2.refusal(*numbers, kind) for (*numbers, _), kind in zip(typed, kinds)] != right
+    answers = {(b, ports, base, kind): settings2.refusal(b, ports, base, kind) for b, ports, base, kind in typed}
+    both = [(answers[b, ports, base, EDS_8], code) for (b, ports, base, kind), code in answers.items()
+            if kind == MIGHTY_MUX and (b, ports, base, EDS_8) in answers]
+    assert {(0, 0), (0, 12), (4, 12), (4, 4), (3, 3), (11, 11), (2, 2), (1, 1)} == set(both)
 
 
 def test_settings_check():
@@ -1725,10 +1984,12 @@ def test_settings_check():
         at = next(number for number, line in enumerate(right) if line.startswith(old))
         return right[:at] + new + right[at + lines:]
 
-    assert 2500 < text.count('\n') < 3500 and agrees(right)
-    assert {'32 33 15360', '8 121 64', '8 9 960', '16 100 2047', '8\t1 64', '8 1 64\r', ''} <= set(text.split('\n'))
+    assert 6000 < text.count('\n') < 8000 and agrees(right)
+    assert {'32 33 15360', '8 121 64', '8 9 960', '16 100 2047', '8\t1 64', '8 1 64\r', '', '8 8 64 m', '8 8 256m', '8 8 256\tm\r',
+            '8 8 256 M', '8 8 m 256'} <= set(text.split('\n'))
     assert text.endswith('\n8 1 65') and right[-2:] == printed('8 1 65\n')
-    advice = next(line for line in right if line.startswith('type instead: 8 '))
+    advice = next(line for line in right if re.fullmatch('type instead: 8 [0-9]+ [0-9]+', line))
+    for_mighty = next(line for line in right if re.fullmatch('type instead: 8 [0-9]+ 256 m', line))
     for lines in (wrong('refused, 11:', printed('8 1 1\n')[:1]), wrong('refused, 3:', printed('8 1 32768\n')[:1]),
                   wrong('refused, 11:', ['refused, 11: ' + TOLD['3']]), wrong('refused, 3:', ['refused, 3: ' + TOLD['11']]),
                   wrong('refused, 4:', ['refused, 5: ' + TOLD['4']]), wrong('refused, 11:', ['refused, 5: ' + TOLD['11']]),
@@ -1741,11 +2002,19 @@ def test_settings_check():
                   wrong('accepted', ['please']), wrong('accepted', []), wrong('accepted', ['accepted', advice]),
                   wrong('please', ['accepted']), wrong('please', []), wrong('please', [settings2.PLEASE + ' ']),
                   wrong('please', ['please type three numbers: block size, ports, base']),
+                  wrong('please', ['please type three decimal numbers below 4294967296: block size, ports, base']),
+                  wrong('refused, 12:', ['refused, 12: ' + TOLD['3']]), wrong('refused, 12:', ['refused, 3: ' + TOLD['3']]),
+                  wrong('refused, 12:', ['refused, 12: None']), wrong('refused, 12:', ['accepted'], 2),
+                  *[wrong(for_mighty, new) for new in (
+                      [], [for_mighty[:-2]], [for_mighty[:-2] + 'm'], [for_mighty + ' '], [for_mighty.replace('256', '0')],
+                      [for_mighty.replace('256', '64')], [for_mighty.replace('m', 'M')])],
+                  right[:right.index(advice)] + [advice + ' m'] + right[right.index(advice) + 1:],
                   right[:-1], right[:-2], right + ['accepted'], right + [settings2.PLEASE],
                   right + printed('8 1 65\n'), right + [''], right[1:], []):
         assert not agrees(lines)
     assert not agrees(right, end='') and not agrees(right, end='\n\n')
     assert 'told to type with 3' in settings2.check(text, '\n'.join(wrong(advice, ['type instead: 8 1 1'])), TOLD)[1]
+    assert 'told to type with 12' in settings2.check(text, '\n'.join(wrong(for_mighty, ['type instead: 8 1 64 m'])), TOLD)[1]
 
 
 def test_settings_kinds():
@@ -1760,11 +2029,14 @@ def test_settings_kinds():
 def test_settings_short_texts():
     accepted, please = 'accepted\n', settings2.PLEASE + '\n'
     refused = f'refused, 4: {TOLD["4"]}\ntype instead: 8 121 0\n'
-    wanted = ('', '', '', accepted, refused, please, please, accepted, accepted)
+    by_12 = f'refused, 12: {TOLD["12"]}\ntype instead: 8 8 0 m\n'
+    wanted = ('', '', '', accepted, refused, please, please, accepted, accepted,
+              accepted, accepted, accepted, accepted, by_12, please, please, please, accepted, accepted * 2, accepted)
     assert len(settings2.SHORT_TEXTS) == len(set(settings2.SHORT_TEXTS)) == len(wanted)
+    assert f'there are: {len(wanted)}, with the numbers 0 to {len(wanted) - 1}\n' in settings2.__doc__
     for text, lines in zip(settings2.SHORT_TEXTS, wanted):
         assert settings2.check(text, lines, TOLD, some=True)[0] and not settings2.check(text, lines, TOLD)[0]
-        for wrong in {'', accepted, refused, please, lines + please, lines + accepted, lines[:-1] or '\n'} - {lines}:
+        for wrong in {'', accepted, refused, please, by_12, lines + please, lines + accepted, lines[:-1] or '\n'} - {lines}:
             assert not settings2.check(text, wrong, TOLD, some=True)[0]
 
 
@@ -1945,7 +2217,8 @@ def test_orders_keep_the_format():
                 sessions.small_sets_session()[0], sessions.stack_session()[0], sessions.kinds_session()[0]]
     pokes = (drive.POKE, drive.POKE_PORT, drive.POKE_STACK)
     assert not any(order[0] in pokes for author in by_calls for order in author.orders)
-    by_pokes = [sessions.bases_session()[0], sessions.poked_session()[0], sessions.small_stack_session()[0]]
+    by_pokes = [sessions.bases_session()[0], sessions.poked_session()[0], sessions.small_stack_session()[0],
+                sessions.mighty_bases_session()[0]]
     for author in written + by_calls + by_pokes + [sessions.speeds_session()[0]]:
         for op, *rest in author.orders:
             limits = most.get(op, ())
