@@ -19,8 +19,9 @@ import settings2  # noqa: E402
 ENDINGS = {'.rt', '.antt', '.py', '.sh'}
 # Crates whose definitions speak of the programs and not of the multiplexer.
 PROGRAMS = {'driver', 'compared', 'watch', 'settings'}
-# An example of a number: what was typed, what to type instead.
-EXAMPLE = re.compile(r' +(\d+ \d+ \d+) +type (\d+ \d+ \d+): (.*)')
+# A setting as it is typed, with an m for a Mighty Mux; an example of a number: what was typed, what to type instead.
+SETTING = r'\d+ \d+ \d+(?: m\b)?'
+EXAMPLE = re.compile(rf' +({SETTING}) +type ({SETTING}): (.*)')
 PAGES = ['README.md', 'docs/CLAIMS.md', 'docs/DECISIONS.md', 'docs/CHANGING.md', 'docs/CARETAKER.md']
 
 
@@ -101,16 +102,16 @@ def accepts(typed):
 def example_right(number, line):
     """Whether a line below an entry is an example that the second program answers so; what else it offers is accepted."""
     found = EXAMPLE.fullmatch(line)
-    return bool(found) and answers(found[1], number, found[2]) and all(accepts(offer) for offer in re.findall(r'\d+ \d+ \d+', found[3]))
+    return bool(found) and answers(found[1], number, found[2]) and all(accepts(offer) for offer in re.findall(SETTING, found[3]))
 
 
 def examples_told():
     """Examples of docs/CARETAKER.md that the second program answers otherwise."""
     page = read(ROOT / 'docs/CARETAKER.md')
     lost = [line for number, _, lines in entries() for line in lines if not example_right(number, line)]
-    shown = re.findall(r'^ {4}(\d+ \d+ \d+)\n {4}refused, (\d+): (.*)\n {4}type instead: (.*)$', page, re.M)
+    shown = re.findall(rf'^ {{4}}({SETTING})\n {{4}}refused, (\d+): (.*)\n {{4}}type instead: (.*)$', page, re.M)
     lost += [typed for typed, number, sentence, instead in shown if not answers(typed, number, instead) or sentences().get(int(number)) != sentence]
-    works = re.findall(r'(\d+) (\d+) (\d+)', ''.join(re.findall(r'^Settings that work: (.*)$', page, re.M)))
+    works = re.findall(r'(\d+) (\d+) (\d+(?: m\b)?)', ''.join(re.findall(r'^Settings that work: (.*)$', page, re.M)))
     lost += [f'{b} {n} {a}' for b, ports, a in works for n in range(1, int(ports) + 1) if not accepts(f'{b} {n} {a}')]
     lost += [] if shown and works else ['the shown answer, or the settings that work']
     return [f'docs/CARETAKER.md is wrong here: {line.strip()}' for line in lost]

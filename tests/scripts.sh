@@ -18,11 +18,16 @@ ends() {
     echo "script $*: $verdict"
 }
 
-# The answer to 8 1 32768 that the caretaker's page shows.
-sed -n '/^    8 1 32768$/,/^    type instead/p' docs/CARETAKER.md | sed -e 1d -e 's/^    //' >"$room/shown"
-[ -s "$room/shown" ] || echo 'docs/CARETAKER.md shows no answer' >"$room/shown"
+# The answer to a line that the caretaker's page shows.
+shown() {
+    sed -n "/^    $1\$/,/^    type instead/p" docs/CARETAKER.md | sed -e 1d -e 's/^    //' >"$room/shown"
+    [ -s "$room/shown" ] || echo 'docs/CARETAKER.md shows no answer' >"$room/shown"
+}
 
 ends crates/watch/stdout ./watch
+shown '8 1 32768'
 ends "$room/shown" ./settings 8 1 32768
+shown '8 8 320 m'
+ends "$room/shown" ./settings 8 8 320 m
 echo "$passed passed, $failed failed"
 [ "$failed" -eq 0 ]
