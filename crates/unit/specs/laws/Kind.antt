@@ -11,7 +11,7 @@ use mathlib.Core.Option.{some, none}
 use Prim.Native.Nat.{_<_}
 use lib.Dec.{eqb, leb}
 use borrow.Author.Tests.{lt-ltb}
-use Rattle.ground.specs.Choose.{pick, asked, firstOf}
+use Rattle.ground.specs.Choose.{firstOf}
 use Rattle.interrupt.specs.declared.Kind.{Kind}
 use Rattle.interrupt.specs.declared.Kind.the-variants.{Eds8}
 use Rattle.interrupt.specs.Stack.{DEPTH}
@@ -19,8 +19,9 @@ use Rattle.interrupt.specs.Interrupt as Interrupt
 use Rattle.unit.specs.declared.mux.Setting.{Setting}
 use Rattle.unit.specs.declared.mux.Mux.{Mux}
 use Rattle.unit.specs.declared.reply.Replied.{Replied}
-use Rattle.unit.specs.Refusals.{UNSOUND, settingRows, unsound, Given, rowsOf, callRows, tableOf, refusal, ofSetup}
+use Rattle.unit.specs.Refusals.{UNSOUND, settingRows, unsound, Given, refusal, ofSetup}
 use Rattle.unit.specs.Setup.{setup}
+use Rattle.unit.specs.laws.Refusals.{unsound-first}
 use Rattle.unit.specs.laws.Replies.{setup-accepted, setup-refused}
 
 -- the setting with another kind
@@ -37,8 +38,9 @@ refused-kind s n = rw (setup-refused s n)
 
 -- a call on a record with more than 40 entries
 pub overfull : (g : Given) (u : Mux) → g .setting ≡ none → g .unit ≡ some u → DEPTH < u .irq .fill → refusal g ≡ UNSOUND
-unfolding refusal tableOf rowsOf callRows firstOf asked pick unsound Interrupt.unsound
-overfull g u e f h = rw (e, f, lt-ltb _ _ h, any (leb (u .setting .ports) (u .pos)), any (not (eqb (firstOf (settingRows (u .setting))) 0)))
+unfolding unsound Interrupt.unsound
+overfull g u e f h =
+    unsound-first g u e f (rw (lt-ltb _ _ h, any (leb (u .setting .ports) (u .pos)), any (not (eqb (firstOf (settingRows (u .setting))) 0))))
   where
     any : (t : Bool) → (t || true) ≡ true
     any true = refl

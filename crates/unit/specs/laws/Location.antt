@@ -2,6 +2,7 @@
 --   OnlyElsewhere            a Mighty Mux whose base is no multiple of octal 400 and has no other fault that is asked before
 --   location-iff             12 in numbers: exactly where its row applies and none before it
 --   taken-located, sound-located   a Mighty Mux that setup takes, and one whose record is not refused, starts at a multiple of octal 400
+--   elsewhere-refused        every call on the record of one that starts elsewhere is refused with 6
 --   mighty-bases             its bases are all of these in the memory, whatever the block size
 --   never-32                 with blocks of 32 words 12 is never given: 3 comes first
 --   rowsBefore               setup's table as it was: for comparisons alone, these and those of K1 and K10
@@ -29,7 +30,7 @@ use Rattle.unit.specs.Reply.{refused, accepted, guarded}
 use Rattle.unit.specs.Refusals.{MISALIGNED, TOO-HIGH, BAD-LOCATION, badBlock, badPorts, misaligned, tooHigh, badLocation, sizeRows, baseRows, areaRows, settingRows, unsound, Given, refusal, ofSetup, ofUnit}
 use Rattle.unit.specs.Setup.{setup}
 use Rattle.unit.specs.Sound.{IsBlock, SizeFits, BaseFits}
-use Rattle.unit.specs.laws.Refusals.{setup-refusal}
+use Rattle.unit.specs.laws.Refusals.{setup-refusal, setting-unsound, unsound-first}
 use Rattle.unit.specs.laws.Sound.{good-base, low-base, size-fits, setup-iff, sound-iff, by-block}
 use Rattle.unit.specs.laws.Tables.{setupBy, unsoundBy, callRowsBy, same-setup, alike-by, same-sound, same-calls}
 use Rattle.unit.specs.laws.Kind.{ofKind}
@@ -84,6 +85,10 @@ taken-located s e k = setup-iff s .0 e .base .located k
 -- and so does one whose record is not refused
 pub sound-located : (u : Mux) → refusal (ofUnit u) ≡ 0 → u .setting .kind ≡ MightyMux → u .setting .base % 256 ≡ 0
 sound-located u e k = sound-iff u .0 e .setting .base .located k
+
+-- every call on the record of one that starts elsewhere is refused with 6
+pub elsewhere-refused : (g : Given) (u : Mux) → g .setting ≡ none → g .unit ≡ some u → u .setting .kind ≡ MightyMux → (u .setting .base % 256 ≡ 0 → ⊥) → refusal g ≡ 6
+elsewhere-refused g u e f k n = unsound-first g u e f (setting-unsound u (λ z. n (taken-located (u .setting) z k)))
 
 -- its bases are all of these in the memory, whatever the block size
 pub mighty-bases : (s : Setting) → SizeFits s → s .kind ≡ MightyMux → BaseFits s ↔ ((s .base % 256 ≡ 0) × (s .base ≤ 32767))

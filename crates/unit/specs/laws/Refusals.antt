@@ -4,6 +4,7 @@
 --   setup-order, call-order      the numbers in the order in which they are asked
 --   setup-refusal, by-size ..    setup's number, part by part
 --   setting-unsound, setting-passed   row 6 has no list of its own: a record is unsound whose setting setup would refuse, whatever the row; of another the rest is asked
+--   unsound-first                every call on an unsound record is refused with 6, before any other number
 --   inspection-refusal, sweep-refusal   a call's number is that of the smaller call, and then its own rows
 -- Not here: the table itself, in specs/Refusals; what refusal 0 says in numbers, in Sound.
 -- Assumes nothing.
@@ -21,7 +22,7 @@ use Rattle.ground.specs.laws.Rows.{Gives, first-gives, absent, never, first-the
 use Rattle.interrupt.specs.Interrupt as Interrupt
 use Rattle.unit.specs.declared.mux.Setting.{Setting}
 use Rattle.unit.specs.declared.mux.Mux.{Mux}
-use Rattle.unit.specs.Refusals.{WORDS, MOST-INSPECTIONS, BAD-MEMORY, TOO-MANY, SHORT-LIST, sizeRows, baseRows, areaRows, settingRows, unsound, Given, rowsOf, callRows, tableOf, refusal, ofSetup, ofUnit, ofInspection, ofSweep}
+use Rattle.unit.specs.Refusals.{WORDS, MOST-INSPECTIONS, UNSOUND, BAD-MEMORY, TOO-MANY, SHORT-LIST, sizeRows, baseRows, areaRows, settingRows, unsound, Given, rowsOf, callRows, tableOf, refusal, ofSetup, ofUnit, ofInspection, ofSweep}
 
 -- the table gives k exactly where the call is refused with k: every kind of call, and 0 for none
 pub given : (g : Given) (k : ℕ) → (refusal g ≡ k) ↔ Gives (tableOf g) k
@@ -86,6 +87,11 @@ setting-unsound u n = by-setting u false (ne-eqb _ _ (λ e. n (setup-refusal (u 
 -- of another its position and its interrupt side are asked
 pub setting-passed : (u : Mux) → refusal (ofSetup (u .setting)) ≡ 0 → unsound u ≡ (leb (u .setting .ports) (u .pos) || Interrupt.unsound (u .irq))
 setting-passed u e = by-setting u true (eq-eqb _ _ (sym (setup-refusal (u .setting)) ∙ e))
+
+-- every call on an unsound record is refused with 6, whatever else it is given
+pub unsound-first : (g : Given) (u : Mux) → g .setting ≡ none → g .unit ≡ some u → unsound u ≡ true → refusal g ≡ UNSOUND
+unfolding refusal tableOf rowsOf callRows firstOf asked pick
+unsound-first g u e f h = rw (e, f, h)
 
 -- ---- a call's number is that of the smaller call, and then its own rows
 
