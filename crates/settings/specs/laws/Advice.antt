@@ -26,6 +26,7 @@ use Rattle.unit.specs.declared.mux.Setting.{Setting}
 use Rattle.unit.specs.Refusals.{MOST-PORTS, tooHigh, refusal, ofSetup}
 use Rattle.unit.specs.Sound.{IsBlock, eight, sixteen, thirty-two, SizeFits, BaseFits, AreaFits}
 use Rattle.unit.specs.laws.Sound.{by-block, setup-iff}
+use Rattle.unit.specs.laws.Location.{aligned-400}
 use Rattle.unit.specs.laws.Set.{choosing, refusal-unread}
 use Rattle.settings.specs.Advice.{blockMended, portsMended, sizesMended, inMemory, multipleBelow, stepOf, lastBase, baseMended, withBase, lowered, advised}
 
@@ -118,10 +119,7 @@ Steps k a b = (a % (8 * b) ≡ 0) × (k ≡ MightyMux → a % 256 ≡ 0)
 on-step : (k : Kind) (a b : ℕ) → IsBlock b → (a % stepOf k b ≡ 0) ↔ Steps k a b
 unfolding stepOf
 on-step Eds8 a b i = (λ e. (e, λ h. cc), λ p. p .0)
-on-step MightyMux a b i = (λ e. (aligned b i e, λ _. e), λ p. p .1 refl)
-  where
-    aligned : (b : ℕ) → IsBlock b → a % 256 ≡ 0 → a % (8 * b) ≡ 0
-    aligned = by-block (λ b. a % 256 ≡ 0 → a % (8 * b) ≡ 0) (λ e. omega arith) (λ e. omega arith) (λ e. omega arith)
+on-step MightyMux a b i = (λ e. (aligned-400 a b i e, λ _. e), λ p. p .1 refl)
 
 -- a stretch of 128 blocks that begins in the memory: an area in it begins in the memory and does not cross
 abbrev Within : ℕ → ℕ → ℕ → ℕ → Type 0

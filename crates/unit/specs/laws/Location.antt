@@ -3,7 +3,7 @@
 --   location-iff             12 in numbers: exactly where its row applies and none before it
 --   taken-located, sound-located   a Mighty Mux that setup takes, and one whose record is not refused, starts at a multiple of octal 400
 --   elsewhere-refused        every call on the record of one that starts elsewhere is refused with 6
---   mighty-bases             its bases are all of these in the memory, whatever the block size
+--   aligned-400, mighty-bases   its bases are all of these in the memory, whatever the block size
 --   never-32                 with blocks of 32 words 12 is never given: 3 comes first
 --   rowsBefore               setup's table as it was: for comparisons alone, these and those of K1 and K10
 --   location-same, location-changed   a setup answers as it did, but for OnlyElsewhere: 12 in the place of 0 or 4
@@ -14,20 +14,20 @@
 use mathlib.Core.Path.{_≡_, refl, sym, ap, _∙_}
 use mathlib.Core.Bool.{Bool, true, false, false≢true, not}
 use mathlib.Core.List.{List, [], _∷_, _++_}
-use mathlib.Core.Logic.{_↔_}
+use mathlib.Core.Logic.{_↔_, _⊎_, inl, inr}
 use mathlib.Core.Option.{some, none}
 use Prim.Native.Nat.{ℕ, _*_, _%_, _≤_}
 use native.Mathlib.Omega.{arith}
 use borrow.Author.Tests.{eqb-false, ne-eqb, not-true}
 use Rattle.ground.specs.Choose.{pick, Row, row, firstOf}
-use Rattle.ground.specs.laws.Rows.{first-zero, never, first-at}
+use Rattle.ground.specs.laws.Rows.{first-zero, never, first-at, first-put}
 use Rattle.interrupt.specs.declared.Kind.{Kind}
 use Rattle.interrupt.specs.declared.Kind.the-variants.{Eds8, MightyMux}
 use Rattle.unit.specs.declared.mux.Setting.{Setting}
 use Rattle.unit.specs.declared.mux.Mux.{Mux}
 use Rattle.unit.specs.Record.{fresh, noMux}
 use Rattle.unit.specs.Reply.{refused, accepted, guarded}
-use Rattle.unit.specs.Refusals.{MISALIGNED, TOO-HIGH, BAD-LOCATION, badBlock, badPorts, misaligned, tooHigh, badLocation, sizeRows, baseRows, areaRows, settingRows, unsound, Given, refusal, ofSetup, ofUnit}
+use Rattle.unit.specs.Refusals.{MISALIGNED, TOO-HIGH, BAD-LOCATION, misaligned, tooHigh, badLocation, sizeRows, baseRows, areaRows, settingRows, unsound, Given, refusal, ofSetup, ofUnit}
 use Rattle.unit.specs.Setup.{setup}
 use Rattle.unit.specs.Sound.{IsBlock, SizeFits, BaseFits}
 use Rattle.unit.specs.laws.Refusals.{setup-refusal, setting-unsound, unsound-first}
@@ -59,12 +59,16 @@ unfolding badLocation
 bad-location Eds8 a = (λ e. absurd (false≢true e), λ h. absurd (no-mighty (h .0)))
 bad-location MightyMux a = (λ e. (refl, eqb-false _ _ (not-true _ e)), λ h. ap not (ne-eqb _ _ (h .1)))
 
+-- the rows before it: 1, 2, 3 and 11
+abbrev earlier : Setting → List Row
+earlier s = sizeRows s ++ (row MISALIGNED (misaligned (s .block) (s .base)) ∷ row TOO-HIGH (tooHigh (s .base)) ∷ [])
+
 -- setup is refused with 12 exactly there
 pub location-iff : (s : Setting) → (refusal (ofSetup s) ≡ BAD-LOCATION) ↔ OnlyElsewhere s
 unfolding settingRows sizeRows baseRows areaRows
 location-iff s =
     let z = first-zero (sizeRows s) refl in
-    let l = first-at (sizeRows s ++ (row MISALIGNED (misaligned (s .block) (s .base)) ∷ row TOO-HIGH (tooHigh (s .base)) ∷ [])) (row BAD-LOCATION (badLocation (s .kind) (s .base))) (areaRows s) refl refl in (
+    let l = first-at (earlier s) (row BAD-LOCATION (badLocation (s .kind) (s .base))) (areaRows s) refl refl in (
       λ e. let p = l .0 (sym (setup-refusal s) ∙ e) in
           let b = bad-location _ _ .0 (p .1) in
           record {
@@ -90,12 +94,14 @@ sound-located u e k = sound-iff u .0 e .setting .base .located k
 pub elsewhere-refused : (g : Given) (u : Mux) → g .setting ≡ none → g .unit ≡ some u → u .setting .kind ≡ MightyMux → (u .setting .base % 256 ≡ 0 → ⊥) → refusal g ≡ 6
 elsewhere-refused g u e f k n = unsound-first g u e f (setting-unsound u (λ z. n (taken-located (u .setting) z k)))
 
--- its bases are all of these in the memory, whatever the block size
+-- a multiple of octal 400 is one of 8b, whatever the block size
+pub aligned-400 : (a b : ℕ) → IsBlock b → a % 256 ≡ 0 → a % (8 * b) ≡ 0
+aligned-400 a = by-block (λ b. a % 256 ≡ 0 → a % (8 * b) ≡ 0) (λ e. omega arith) (λ e. omega arith) (λ e. omega arith)
+
+-- so its bases are all of these in the memory
 pub mighty-bases : (s : Setting) → SizeFits s → s .kind ≡ MightyMux → BaseFits s ↔ ((s .base % 256 ≡ 0) × (s .base ≤ 32767))
-mighty-bases s z k = (λ f. (f .located k, f .low), λ h. record { aligned = aligned (s .block) (z .block) (h .0); low = h .1; located = λ _. h .0 })
-  where
-    aligned : (b : ℕ) → IsBlock b → s .base % 256 ≡ 0 → s .base % (8 * b) ≡ 0
-    aligned = by-block (λ b. s .base % 256 ≡ 0 → s .base % (8 * b) ≡ 0) (λ e. omega arith) (λ e. omega arith) (λ e. omega arith)
+mighty-bases s z k =
+    (λ f. (f .located k, f .low), λ h. record { aligned = aligned-400 (s .base) (s .block) (z .block) (h .0); low = h .1; located = λ _. h .0 })
 
 -- with blocks of 32 words the number never comes: 8 times 32 is 256, so 3 comes first
 pub never-32 : (s : Setting) → s .block ≡ 32 → refusal (ofSetup s) ≡ BAD-LOCATION → ⊥
@@ -105,40 +111,25 @@ never-32 s b e = let h = location-iff s .0 e in h .elsewhere (rw b at (h .aligne
 
 -- rows 1, 2, 3, 11 and 4; their tests are today's
 unfoldable pub rowsBefore : Setting → List Row
-rowsBefore s =
-    sizeRows s
-    ++ (row MISALIGNED (misaligned (s .block) (s .base)) ∷ row TOO-HIGH (tooHigh (s .base)) ∷ areaRows s)
+rowsBefore s = earlier s ++ areaRows s
 
 -- ---- what changed
 
--- the numbers of the two tables: the same, or 12 where it was that of the area
-data Numbers (now was area : ℕ) : Type 0 where
-  equal : now ≡ was → Numbers now was area
-  apart : now ≡ BAD-LOCATION → was ≡ area → Numbers now was area
+-- the number is the one that it was, or 12 where row 4 decided
+abbrev Since : Setting → Type 0
+Since s = (refusal (ofSetup s) ≡ firstOf (rowsBefore s)) ⊎ ((refusal (ofSetup s) ≡ BAD-LOCATION) × (firstOf (rowsBefore s) ≡ firstOf (areaRows s)))
 
--- whatever the tests of their first rows are
-by-tests : (a b m h l : Bool) (k : ℕ) → Numbers (pick a 1 (pick b 2 (pick m 3 (pick h 11 (pick l 12 k))))) (pick a 1 (pick b 2 (pick m 3 (pick h 11 k)))) k
-unfolding pick
-by-tests true b m h l k = equal refl
-by-tests false true m h l k = equal refl
-by-tests false false true h l k = equal refl
-by-tests false false false true l k = equal refl
-by-tests false false false false true k = apart refl refl
-by-tests false false false false false k = equal refl
-
-numbers : (s : Setting) → Numbers (refusal (ofSetup s)) (firstOf (rowsBefore s)) (firstOf (areaRows s))
-unfolding settingRows sizeRows baseRows rowsBefore firstOf
-numbers s =
-    rw (setup-refusal s)
-    (by-tests (badBlock (s .block)) (badPorts (s .ports)) (misaligned (s .block) (s .base)) (tooHigh (s .base)) (badLocation (s .kind) (s .base)) (firstOf (areaRows s)))
+numbers : (s : Setting) → Since s
+unfolding settingRows sizeRows baseRows rowsBefore
+numbers s = rw (setup-refusal s) (first-put (earlier s) (row BAD-LOCATION (badLocation (s .kind) (s .base))) (areaRows s))
 
 -- any number but 12 is the one that it was
 number-same : (s : Setting) → (refusal (ofSetup s) ≡ BAD-LOCATION → ⊥) → refusal (ofSetup s) ≡ firstOf (rowsBefore s)
 number-same s n = go (numbers s)
   where
-    go : Numbers (refusal (ofSetup s)) (firstOf (rowsBefore s)) (firstOf (areaRows s)) → refusal (ofSetup s) ≡ firstOf (rowsBefore s)
-    go (equal e) = e
-    go (apart e f) = absurd (n e)
+    go : Since s → refusal (ofSetup s) ≡ firstOf (rowsBefore s)
+    go (inl e) = e
+    go (inr h) = absurd (n (h .0))
 
 -- a setup answers as it did, number and record, but for one case
 pub location-same : (s : Setting) → (OnlyElsewhere s → ⊥) → setup s ≡ setupBy rowsBefore s
@@ -147,14 +138,14 @@ location-same s n = same-setup rowsBefore s (number-same s (λ e. n (location-if
 -- in which it had what row 4 says, 0 or 4, and has 12
 pub location-changed : (s : Setting) → OnlyElsewhere s → (setupBy rowsBefore s ≡ guarded (firstOf (areaRows s)) noMux (accepted 0 (fresh s))) × (setup s ≡ refused 12 noMux)
 unfolding setup setupBy guarded pick rowsBefore sizeRows areaRows
-location-changed s h = go (numbers s)
+location-changed s h = (go (numbers s), rw now refl)
   where
     now : refusal (ofSetup s) ≡ BAD-LOCATION
     now = location-iff s .1 h
 
-    go : Numbers (refusal (ofSetup s)) (firstOf (rowsBefore s)) (firstOf (areaRows s)) → (setupBy rowsBefore s ≡ guarded (firstOf (areaRows s)) noMux (accepted 0 (fresh s))) × (setup s ≡ refused 12 noMux)
-    go (equal e) = absurd (never (rowsBefore s) BAD-LOCATION refl (sym e ∙ now))
-    go (apart _ was) = (rw was refl, rw now refl)
+    go : Since s → setupBy rowsBefore s ≡ guarded (firstOf (areaRows s)) noMux (accepted 0 (fresh s))
+    go (inl e) = absurd (never (rowsBefore s) BAD-LOCATION refl (sym e ∙ now))
+    go (inr was) = rw (was .1) refl
 
 -- ---- an EDS-8
 
