@@ -49,8 +49,8 @@ module _ (w : World) (a : Single) (t : result w a ≡ scanned (w .mux) (w .memor
   pub elsewhere : (k : Service) (p : ℕ) → (w .mux .pos ≡ p → ⊥) → serviceAt k p w a ≡ false
   unfolding serviceAt
   elsewhere k p h =
-      rw (t, scan-moves (w .mux) (w .memory) .names, ne-eqb (w .mux .pos) p h)
-      (and-false (eqb (turnNumber (scanned (w .mux) (w .memory) .reply .answer .turn)) (turnNumber (Served k))))
+      let n : eqb (result w a .reply .answer .port) p ≡ false = rw (t, scan-moves (w .mux) (w .memory) .names) (ne-eqb (w .mux .pos) p h) in
+      ap (λ b. eqb (turnNumber (result w a .reply .answer .turn)) (turnNumber (Served k)) && b) n ∙ and-false (eqb (turnNumber (result w a .reply .answer .turn)) (turnNumber (Served k)))
 
   -- a port's own goes to input exactly where something is held
   own-input : inputAt (w .mux .pos) w a ≡ holdsAt (w .mux .pos) w

@@ -18,16 +18,19 @@ use Rattle.interrupt.specs.declared.Service.the-variants.{Input, Output}
 use Rattle.unit.specs.declared.reply.Turn.the-variants.{Served}
 use Rattle.unit.specs.Record.{portAt}
 use Rattle.unit.specs.Reply.{turnNumber, counts, World}
+use Rattle.unit.specs.Sound.{Sound}
 use Rattle.unit.specs.laws.Sound.{port-iff}
 use Rattle.unit.specs.laws.Replies.{setup-accepted}
 use Rattle.lines.specs.declared.signal.Signal.the-variants.{Arrival}
 use Rattle.lines.specs.laws.Lines.{arrived}
+use Rattle.processor.specs.declared.orders.Order.the-variants.{Dob}
 use Rattle.processor.specs.laws.Processor.{reset-is, dob-is}
 use Rattle.scan.specs.Turn.{idleTurn}
 use Rattle.scan.specs.Scan.{serviceTurn, scanned}
 use Rattle.scan.specs.laws.Scan.{sound-scans, scan-moves, scanned-input, scanned-output, scanned-idle, served-says, served-names}
 use Rattle.calls.specs.Calls.{setUp, performed}
-use Rattle.calls.specs.Events.{Single, result, after, counted}
+use Rattle.calls.specs.declared.call.Act.the-variants.{Processor}
+use Rattle.calls.specs.Events.{Single, does, result, after, counted}
 use Rattle.waiting.specs.Counting.{turnAt, serviceAt, unrefused, isArrival, isClear, takesAt, holdsAt, replacesAt, dropsAt}
 use Rattle.waiting.specs.Waiting.{Running, Takes, ServiceTurn, Stops, Counts, Clears, reset, setup, Breaks, clears, Tests, Arrivals}
 use Rattle.waiting.specs.laws.View.{View, turn, arrives, clear, quiet, takes-line, view, turn-moves}
@@ -186,8 +189,12 @@ module _ (w : World) (a : Single) where
       to (View.stop t b s l) = λ n. b
       to (quiet t s l) = on (s .running r)
 
+      -- a DOB of a sound unit stops it
+      stopped : Sound (w .mux) → after w (does (Processor Dob)) .mux .runs ≡ false
+      stopped s = rw (dob-is (w .mux) s)
+
       back : Breaks w a → Stops w a
-      back (Breaks.stop s e) = rw (e, dob-is (w .mux) s)
+      back (Breaks.stop s e) = ap (λ (x : Single). after w x .mux .runs) e ∙ stopped s
       back (clears (reset s e)) = rw (e, reset-is (w .mux) s)
       back (clears (setup s z e)) = rw (e, setup-accepted s z)
 

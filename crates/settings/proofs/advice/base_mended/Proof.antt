@@ -1,5 +1,7 @@
--- `settings::advice::base_mended` meets its contract, in each arm.
-use mathlib.Core.Path.{refl}
+-- `settings::advice::base_mended` meets its contract, in each arm; what the test says is written out, so that a wrong one is named.
+use mathlib.Core.Path.{_≡_, refl}
+use mathlib.Core.Bool.{true, false}
+use lib.Dec.{ltb}
 use borrow.Author.Tests.{lt-ltb, le-ltb}
 use borrow.Author.Needs.{needs}
 use Rattle.ground.specs.Choose.{pick}
@@ -20,11 +22,15 @@ last-base-requires c κs = (c .before .before .before .pre, (rw (c .before .befo
 
 returns : tie.Need-returns
 unfolding baseMended pick
-returns c = rw (← c .before .before .before .before .step-of .ensures, ← c .before .before .before .in-memory .ensures .is, ← c .before .before .multiple-below .ensures, ← c .before .last-base .ensures, lt-ltb _ _ (c .if1 .taken)) refl
+returns c =
+    let l : ltb (c .before .before .multiple-below .result) (c .before .last-base .result) ≡ true = lt-ltb _ _ (c .if1 .taken) in
+    rw (← c .before .before .before .before .step-of .ensures, ← c .before .before .before .in-memory .ensures .is, ← c .before .before .multiple-below .ensures, ← c .before .last-base .ensures, l) refl
 
 returns-2 : tie.Need-returns-2
 unfolding baseMended pick
-returns-2 c = rw (← c .before .before .before .before .step-of .ensures, ← c .before .before .before .in-memory .ensures .is, ← c .before .before .multiple-below .ensures, ← c .before .last-base .ensures, le-ltb _ _ (c .if1 .left)) refl
+returns-2 c =
+    let l : ltb (c .before .before .multiple-below .result) (c .before .last-base .result) ≡ false = le-ltb _ _ (c .if1 .left) in
+    rw (← c .before .before .before .before .step-of .ensures, ← c .before .before .before .in-memory .ensures .is, ← c .before .before .multiple-below .ensures, ← c .before .last-base .ensures, l) refl
 
 pub base-mended-spec : {M : Type 1} → statement M
 base-mended-spec =
