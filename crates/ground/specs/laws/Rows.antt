@@ -7,7 +7,7 @@
 --   absent, never, first-at   a number that stands in no row is not given; one that stands in one row alone, exactly where that row applies and none before it
 --   first-then, first-stops, first-both   a table that is two tables, one after the other
 --   first-idle            a last row that does not apply where the others give 0 changes no number
---   first-put             a row that is put into a table changes no number, or gives its own where the rows after it decided
+--   Puts, first-put       a row that is put into a table changes no number, or gives its own where the rows after it decided
 -- Not here: what a row and a table are, in specs/Choose; finding the branch that the code took, in Tests.
 -- Assumes nothing.
 use mathlib.Core.Path.{_≡_, refl, sym, _∙_}
@@ -182,17 +182,21 @@ pub first-idle : (rs : List Row) (r : Row) → (firstOf rs ≡ 0 → r .applies 
 unfolding firstOf
 first-idle rs r idle = first-decides rs (r ∷ []) (λ e. pick-false (r .applies) (r .number) 0 (idle e))
 
--- a row that is put into a table changes no number, or gives its own where the rows after it decided
-pub first-put : (rs : List Row) (r : Row) (ss : List Row) → (firstOf (rs ++ (r ∷ ss)) ≡ firstOf (rs ++ ss)) ⊎ ((firstOf (rs ++ (r ∷ ss)) ≡ r .number) × (firstOf (rs ++ ss) ≡ firstOf ss))
+-- what a row that is put into a table does: it changes no number, or gives its own where the rows after it decided
+abbrev pub Puts : List Row → Row → List Row → Type 0
+Puts rs r ss =
+    (firstOf (rs ++ (r ∷ ss)) ≡ firstOf (rs ++ ss)) ⊎ ((firstOf (rs ++ (r ∷ ss)) ≡ r .number) × (firstOf (rs ++ ss) ≡ firstOf ss))
+
+pub first-put : (rs : List Row) (r : Row) (ss : List Row) → Puts rs r ss
 unfolding firstOf pick
 first-put [] r ss = go (r .applies) refl
   where
-    go : (t : Bool) → r .applies ≡ t → (firstOf (r ∷ ss) ≡ firstOf ss) ⊎ ((firstOf (r ∷ ss) ≡ r .number) × (firstOf ss ≡ firstOf ss))
+    go : (t : Bool) → r .applies ≡ t → Puts [] r ss
     go true a = inr (rw a, refl)
     go false a = inl (rw a)
 first-put (q ∷ rs) r ss = go (q .applies) refl (first-put rs r ss)
   where
-    go : (t : Bool) → q .applies ≡ t → (firstOf (rs ++ (r ∷ ss)) ≡ firstOf (rs ++ ss)) ⊎ ((firstOf (rs ++ (r ∷ ss)) ≡ r .number) × (firstOf (rs ++ ss) ≡ firstOf ss)) → (firstOf (q ∷ (rs ++ (r ∷ ss))) ≡ firstOf (q ∷ (rs ++ ss))) ⊎ ((firstOf (q ∷ (rs ++ (r ∷ ss))) ≡ r .number) × (firstOf (q ∷ (rs ++ ss)) ≡ firstOf ss))
+    go : (t : Bool) → q .applies ≡ t → Puts rs r ss → Puts (q ∷ rs) r ss
     go true a more = inl (rw a)
     go false a (inl e) = inl (rw a e)
     go false a (inr h) = inr (rw a (h .0), rw a (h .1))

@@ -27,8 +27,8 @@ use Rattle.unit.specs.Record.{noSetting}
 use Rattle.unit.specs.Refusals.{WORDS, BAD-BLOCK, CROSSES, TOO-HIGH, badBlock, badPorts, misaligned, tooHigh, badLocation, crosses, sizeRows, baseRows, areaRows, settingRows, unsound, Given, rowsOf, callRows, tableOf, refusal, ofSetup}
 use Rattle.unit.specs.Setup.{setup}
 use Rattle.unit.specs.laws.Sound.{good-block, low-base, good-area, setup-iff, area-ends, fits-end}
-use Rattle.unit.specs.laws.Location.{rowsBefore, OfEds8, eds8-number}
-use Rattle.unit.specs.laws.Tables.{setupBy, unsoundBy, callRowsBy, same-setup, alike-by, same-sound, same-calls}
+use Rattle.unit.specs.laws.Location.{rowsBefore, eds8-number}
+use Rattle.unit.specs.laws.Tables.{setupBy, unsoundBy, callRowsBy, same-setup, alike-by, OfEds8, same-sound, same-calls}
 
 -- ---- where the area ends
 
@@ -86,11 +86,11 @@ setup-unchanged s k = same-setup rowsWithFive s (same-number s k)
 
 -- row 6 refuses the same records of that kind
 pub sound-unchanged : (u : Mux) → u .setting .kind ≡ Eds8 → unsound u ≡ unsoundBy rowsWithFive u
-sound-unchanged u k = same-sound rowsWithFive u (alike-by rowsWithFive (u .setting) (same-number (u .setting) k))
+sound-unchanged = same-sound rowsWithFive (alike-by rowsWithFive same-number)
 
 -- so every call on such a record, which is no setup, is refused as it was
 pub calls-unchanged : (g : Given) → g .setting ≡ none → OfEds8 g → refusal g ≡ firstOf (callRowsBy rowsWithFive g)
-calls-unchanged g e k = same-calls rowsWithFive g e (λ u f. alike-by rowsWithFive (u .setting) (same-number (u .setting) (k u f)))
+calls-unchanged = same-calls rowsWithFive (alike-by rowsWithFive same-number)
 
 -- ---- what it rests on
 

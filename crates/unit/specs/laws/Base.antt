@@ -27,9 +27,9 @@ use Rattle.unit.specs.Setup.{setup}
 use Rattle.unit.specs.Sound.{SizeFits}
 use Rattle.unit.specs.laws.Refusals.{setup-refusal}
 use Rattle.unit.specs.laws.Sound.{good-base, low-base, size-fits}
-use Rattle.unit.specs.laws.Location.{rowsBefore, OfEds8, eds8-number}
+use Rattle.unit.specs.laws.Location.{rowsBefore, eds8-number}
 use Rattle.unit.specs.laws.Area.{five, rowsWithFive, five-idle}
-use Rattle.unit.specs.laws.Tables.{setupBy, unsoundBy, callRowsBy, same-setup, Alike, same-sound, same-calls}
+use Rattle.unit.specs.laws.Tables.{setupBy, unsoundBy, callRowsBy, same-setup, Alike, OfEds8, same-sound, same-calls}
 
 -- ---- the two numbers, each in numbers
 
@@ -156,13 +156,13 @@ zero-together now was (equal e) = rw e
 zero-together now was (apart e f) = rw (e, f)
 
 -- the two tables let the same settings of an EDS-8 pass
-same-pass : (s : Setting) → s .kind ≡ Eds8 → Alike rowsWas s
+same-pass : Alike rowsWas
 same-pass s k = zero-together _ _ (rw (setup-refusal s) at (numbers s k))
 
 -- row 6 refuses the same records of that kind
 pub sound-as-before : (u : Mux) → u .setting .kind ≡ Eds8 → unsound u ≡ unsoundBy rowsWas u
-sound-as-before u k = same-sound rowsWas u (same-pass (u .setting) k)
+sound-as-before = same-sound rowsWas same-pass
 
 -- so every call on such a record, which is no setup, is refused as it was
 pub calls-as-before : (g : Given) → g .setting ≡ none → OfEds8 g → refusal g ≡ firstOf (callRowsBy rowsWas g)
-calls-as-before g e k = same-calls rowsWas g e (λ u f. same-pass (u .setting) (k u f))
+calls-as-before = same-calls rowsWas same-pass

@@ -7,7 +7,7 @@
 --   never-32                 with blocks of 32 words 12 is never given: 3 comes first
 --   rowsBefore               setup's table as it was: for comparisons alone, these and those of K1 and K10
 --   location-same, location-changed   a setup answers as it did, but for OnlyElsewhere: 12 in the place of 0 or 4
---   OfEds8, eds8-number, eds8-setup, eds8-sound, eds8-calls   an EDS-8's setup, row 6 of its record and every call on it as they were
+--   eds8-number, eds8-setup, eds8-sound, eds8-calls   an EDS-8's setup, row 6 of its record and every call on it as they were
 --   kind-asked, kind-32      no number but 12 depends on the kind; with blocks of 32 words none does
 -- Not here: the table itself, in specs/Refusals; the law for every row, in Refusals; setup, row 6 and the other calls by any rows, in Tables.
 -- Assumes nothing.
@@ -32,7 +32,7 @@ use Rattle.unit.specs.Setup.{setup}
 use Rattle.unit.specs.Sound.{IsBlock, SizeFits, BaseFits}
 use Rattle.unit.specs.laws.Refusals.{setup-refusal, setting-unsound, unsound-first}
 use Rattle.unit.specs.laws.Sound.{good-base, low-base, size-fits, setup-iff, sound-iff, by-block}
-use Rattle.unit.specs.laws.Tables.{setupBy, unsoundBy, callRowsBy, same-setup, alike-by, same-sound, same-calls}
+use Rattle.unit.specs.laws.Tables.{setupBy, unsoundBy, callRowsBy, same-setup, alike-by, OfEds8, same-sound, same-calls}
 use Rattle.unit.specs.laws.Kind.{ofKind}
 
 -- ---- the number, in numbers
@@ -159,15 +159,11 @@ eds8-setup s k = same-setup rowsBefore s (eds8-number s k)
 
 -- row 6 refuses its record where it did
 pub eds8-sound : (u : Mux) → u .setting .kind ≡ Eds8 → unsound u ≡ unsoundBy rowsBefore u
-eds8-sound u k = same-sound rowsBefore u (alike-by rowsBefore (u .setting) (eds8-number (u .setting) k))
+eds8-sound = same-sound rowsBefore (alike-by rowsBefore eds8-number)
 
--- a call whose record, if it has one, is an EDS-8's
-abbrev pub OfEds8 : Given → Type 0
-OfEds8 g = (u : Mux) → g .unit ≡ some u → u .setting .kind ≡ Eds8
-
--- every such call that is no setup is refused as it was
+-- so every call on such a record, which is no setup, is refused as it was
 pub eds8-calls : (g : Given) → g .setting ≡ none → OfEds8 g → refusal g ≡ firstOf (callRowsBy rowsBefore g)
-eds8-calls g e k = same-calls rowsBefore g e (λ u f. alike-by rowsBefore (u .setting) (eds8-number (u .setting) (k u f)))
+eds8-calls = same-calls rowsBefore (alike-by rowsBefore eds8-number)
 
 -- ---- what depends on the kind
 

@@ -3,7 +3,7 @@
 --   never-five                   no call is refused with 5 (document 02, K10)
 --   setup-order, call-order      the numbers in the order in which they are asked
 --   setup-refusal, by-size ..    setup's number, part by part
---   setting-unsound, setting-passed   row 6 has no list of its own: a record is unsound whose setting setup would refuse, whatever the row; of another the rest is asked
+--   by-setting, setting-unsound, setting-passed   row 6 has no list of its own: a record is unsound whose setting setup would refuse, whatever the row; of another the rest is asked
 --   unsound-first                every call on an unsound record is refused with 6, before any other number
 --   inspection-refusal, sweep-refusal   a call's number is that of the smaller call, and then its own rows
 -- Not here: the table itself, in specs/Refusals; what refusal 0 says in numbers, in Sound.
@@ -76,7 +76,7 @@ by-area s e f = after-size s e ∙ first-then (baseRows s) (areaRows s) refl f
 -- ---- setup's number and row 6
 
 -- the test of row 6, whose first part is whether setup's table gives 0
-by-setting : (u : Mux) (t : Bool) → eqb (firstOf (settingRows (u .setting))) 0 ≡ t → unsound u ≡ (not t || (leb (u .setting .ports) (u .pos) || Interrupt.unsound (u .irq)))
+pub by-setting : (u : Mux) (t : Bool) → eqb (firstOf (settingRows (u .setting))) 0 ≡ t → unsound u ≡ (not t || (leb (u .setting .ports) (u .pos) || Interrupt.unsound (u .irq)))
 unfolding unsound
 by-setting u t e = ap (λ b. not b || (leb (u .setting .ports) (u .pos) || Interrupt.unsound (u .irq))) e
 

@@ -12,11 +12,12 @@
 -- Not here: what fits and what is sound, in specs/Sound; what a refused call leaves, in Replies.
 -- Assumes nothing.
 use mathlib.Core.Path.{_≡_, refl, ap, _∙_, sym}
-use mathlib.Core.Bool.{true, false, not, _||_}
+use mathlib.Core.Bool.{true, false, true≢false, not, _||_}
 use mathlib.Core.List.{List, _++_}
 use mathlib.Core.Logic.{_↔_, _⊎_, inl, inr}
 use Prim.Native.Nat.{ℕ, _+_, _-_, _*_, _/_, _%_, _<_, _≤_}
 use native.Mathlib.Nat.{mul-pos, mul-le-mul, mul-le-mul-right}
+use native.Mathlib.Decide.{ℕ-discrete}
 use native.Mathlib.Omega.{arith}
 use lib.Dec.{eqb, leb, ltb}
 use lib.ListN.{length}
@@ -32,7 +33,7 @@ use Rattle.unit.specs.declared.mux.Mux.{Mux}
 use Rattle.unit.specs.Record.{fresh, noMux, blockAt}
 use Rattle.unit.specs.Refusals.{WORDS, MOST-PORTS, MOST-INSPECTIONS, AREA-STEP, badBlock, badPorts, misaligned, tooHigh, badLocation, crosses, sizeRows, baseRows, areaRows, settingRows, unsound, rowsOf, callRows, tableOf, refusal, ofSetup, ofUnit, ofPort, ofInspection, ofSweep}
 use Rattle.unit.specs.Sound.{IsBlock, eight, sixteen, thirty-two, SizeFits, BaseFits, AreaFits, Fits, Sound}
-use Rattle.unit.specs.laws.Refusals.{setup-refusal}
+use Rattle.unit.specs.laws.Refusals.{setup-refusal, setting-unsound, setting-passed}
 
 -- ---- the rows, read in numbers
 
@@ -135,17 +136,16 @@ setup-iff s = (λ e. fits-iff s .0 (sym (setup-refusal s) ∙ e), λ h. setup-re
 
 -- the test of row 6 is false exactly where the record is sound
 pub unsound-iff : (u : Mux) → (unsound u ≡ false) ↔ Sound u
-unfolding unsound
-unsound-iff u = (to, from)
+unsound-iff u = (to (ℕ-discrete (refusal (ofSetup (u .setting))) 0), from)
   where
-    to : (not (eqb (firstOf (settingRows (u .setting))) 0) || (leb (u .setting .ports) (u .pos) || Interrupt.unsound (u .irq))) ≡ false → Sound u
-    to e =
-        let p = or-false (not (eqb (firstOf (settingRows (u .setting))) 0)) _ e in
-        let q = or-false (leb (u .setting .ports) (u .pos)) _ (p .1) in
-        record { setting = fits-iff (u .setting) .0 (eqb-true _ _ (not-false _ (p .0))); position = leb-false _ _ (q .0); irq = q .1 }
+    to : Dec (refusal (ofSetup (u .setting)) ≡ 0) → unsound u ≡ false → Sound u
+    to (yes z) e =
+        let q = or-false (leb (u .setting .ports) (u .pos)) (Interrupt.unsound (u .irq)) (sym (setting-passed u z) ∙ e) in
+        record { setting = setup-iff (u .setting) .0 z; position = leb-false _ _ (q .0); irq = q .1 }
+    to (no n) e = absurd (true≢false (sym (setting-unsound u n) ∙ e))
 
-    from : Sound u → (not (eqb (firstOf (settingRows (u .setting))) 0) || (leb (u .setting .ports) (u .pos) || Interrupt.unsound (u .irq))) ≡ false
-    from h = both-false _ _ (ap not (eq-eqb _ _ (fits-iff (u .setting) .1 (h .setting)))) (both-false _ _ (lt-leb _ _ (h .position)) (h .irq))
+    from : Sound u → unsound u ≡ false
+    from h = setting-passed u (setup-iff (u .setting) .1 (h .setting)) ∙ both-false _ _ (lt-leb _ _ (h .position)) (h .irq)
 
 -- ---- refusal 0 of each kind of call
 
