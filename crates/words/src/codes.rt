@@ -103,7 +103,11 @@ pub const STATUS_CHANGED: Field = Field { unit: 256, span: 2 };
 // The eight control bits of a port, bits 8 to 15 of a port control OCW (001, section 4.2).
 pub const PARITY_INHIBIT: Field = Field { unit: 128, span: 2 };
 
+pub const STOP_BAUDS: Field = Field { unit: 64, span: 2 };
+
 pub const LENGTH: Field = Field { unit: 16, span: 4 };
+
+pub const EVEN_PARITY: Field = Field { unit: 8, span: 2 };
 
 pub const SPEED: Field = Field { unit: 1, span: 8 };
 

@@ -4,15 +4,16 @@
 --   map-all     all of them: the map of the list
 --   tab-length, getD-tab   a list by its rule: how long it is, and its elements
 --   tabTo       the first so many elements by the rule, the rest as they were: tab-none, tab-one, tab-all as above
+--   tab-in, tab-past, tab-to-length   each of its elements, and its length
 --   next, shift-last   every place takes the next one's element, and the last another
 -- Not here: lists in general, in the library (lib.Seq, lib.ListN).
 -- Assumes nothing.
-use mathlib.Core.Path.{_≡_, _∙_, refl, sym, ap}
+use mathlib.Core.Path.{_≡_, _∙_, refl, sym, ap, subst⁻¹}
 use mathlib.Core.List.{List, [], _∷_, _++_, map, append-nil}
-use Prim.Native.Nat.{ℕ, zero, suc, _<_}
+use Prim.Native.Nat.{ℕ, zero, suc, _<_, _≤_}
 use native.Mathlib.Nat.{le-of-suc-le-suc, not-suc-le-zero}
 use native.Mathlib.Omega.{arith}
-use lib.ListN.{length, getD, set, drop, List·getD-eq-default}
+use lib.ListN.{length, getD, set, drop, List·getD-eq-default, List·getD-append}
 use lib.Seq.{drop-length}
 use Rattle.ground.specs.Tab.{tab}
 
@@ -72,6 +73,23 @@ module _ {A : Type 0} where
 
   pub tab-all : (f : ℕ → A) (xs : List A) → tabTo (length xs) f xs ≡ tab (length xs) f
   tab-all f xs = ap (λ (ys : List A). tab (length xs) f ++ ys) (drop-length xs) ∙ append-nil (tab (length xs) f)
+
+  -- every element of such a list, and that it is as long as it was
+  pub tab-in : (n : ℕ) (f : ℕ → A) (xs : List A) (k : ℕ) (d : A) → k < n → getD (tabTo n f xs) k d ≡ f k
+  tab-in n f xs k d h = List·getD-append (tab n f) (drop n xs) d k (subst⁻¹ (λ (m : ℕ). k < m) (tab-length n f) h) ∙ getD-tab n f k d h
+
+  pub tab-past : (n : ℕ) (f : ℕ → A) (xs : List A) (k : ℕ) (d : A) → n ≤ length xs → n ≤ k → getD (tabTo n f xs) k d ≡ getD xs k d
+  unfolding tab
+  tab-past zero f xs k d h l = refl
+  tab-past (suc n) f [] k d h l = absurd (not-suc-le-zero h)
+  tab-past (suc n) f (x ∷ xs) zero d h l = absurd (not-suc-le-zero l)
+  tab-past (suc n) f (x ∷ xs) (suc k) d h l = tab-past n (λ j. f (suc j)) xs k d (le-of-suc-le-suc h) (le-of-suc-le-suc l)
+
+  pub tab-to-length : (n : ℕ) (f : ℕ → A) (xs : List A) → n ≤ length xs → length (tabTo n f xs) ≡ length xs
+  unfolding tab
+  tab-to-length zero f xs h = refl
+  tab-to-length (suc n) f [] h = absurd (not-suc-le-zero h)
+  tab-to-length (suc n) f (x ∷ xs) h = ap suc (tab-to-length n (λ j. f (suc j)) xs (le-of-suc-le-suc h))
 
   -- the element of the next place, and d where there is none
   abbrev pub next : A → List A → ℕ → A

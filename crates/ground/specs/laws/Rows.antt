@@ -1,7 +1,7 @@
 -- Laws of choosing, of tests, and of the first row of a table that applies.
 --   pick-true, pick-false what is chosen
 --   bit-below             a bit is below 2
---   or-false, or-true     what an `or` of tests says of its two tests
+--   or-false, or-true, and-true   what an `or` or an `and` of tests says of its two tests
 --   Gives, first-gives    a table gives a number: the rows before it do not apply, and its own does; 0 where no row applies
 --   Passed, first-zero    a table of numbers other than 0 gives 0 exactly where no row of it applies
 --   absent, never, first-at   a number that stands in no row is not given; one that stands in one row alone, exactly where that row applies and none before it
@@ -44,6 +44,11 @@ pub or-true : (a b : Bool) → (a || b) ≡ true → (a ≡ true) ⊎ (b ≡ tru
 or-true true b e = inl refl
 or-true false b e = inr e
 
+-- where an `and` is true both tests are
+pub and-true : (a b : Bool) → (a && b) ≡ true → (a ≡ true) × (b ≡ true)
+and-true true b e = (refl, e)
+and-true false b e = (e, cc)
+
 -- where both tests are false their `or` is
 pub both-false : (a b : Bool) → a ≡ false → b ≡ false → (a || b) ≡ false
 both-false a b p q = cc
@@ -83,10 +88,6 @@ numbered (r ∷ rs) = ltb 0 (r .number) && numbered rs
 abbrev pub Passed : List Row → Type 0
 Passed [] = Unit {0}
 Passed (r ∷ rs) = (r .applies ≡ false) × Passed rs
-
-and-true : (a b : Bool) → (a && b) ≡ true → (a ≡ true) × (b ≡ true)
-and-true true b e = (refl, e)
-and-true false b e = (e, cc)
 
 passed : (rs : List Row) → numbered rs ≡ true → firstOf rs ≡ 0 → Passed rs
 unfolding firstOf pick
