@@ -1,0 +1,42 @@
+-- Forms by number: bits + 4 * parity + 12 * stops, 0 to 35 (tests/second/FORMAT.md).
+-- Not here: what a form is, in Form; that every form has its number and no two the same, in laws/Number.
+-- Assumes nothing.
+use Prim.Native.Nat.{ℕ, _+_, _-_, _*_, _/_, _%_}
+use lib.Dec.{eqb}
+use Rattle.ground.specs.Choose.{pick}
+use Rattle.framing.specs.declared.form.DataBits.{DataBits}
+use Rattle.framing.specs.declared.form.DataBits.the-variants.{Five, Six, Seven, Eight}
+use Rattle.framing.specs.declared.form.Parity.{Parity}
+use Rattle.framing.specs.declared.form.Parity.the-variants.{Inhibited, Odd, Even}
+use Rattle.framing.specs.declared.form.Stops.{Stops}
+use Rattle.framing.specs.declared.form.Stops.the-variants.{One, OneAndHalf, Two}
+use Rattle.framing.specs.declared.form.Form.{Form}
+use Rattle.framing.specs.Form.{dataBits, stopCells}
+
+-- 0 to 3 are 5 to 8 data bits (001, 4.2 bits 10 and 11)
+unfoldable pub bitsNumbered : ℕ → DataBits
+bitsNumbered x = pick (eqb x 0) Five (pick (eqb x 1) Six (pick (eqb x 2) Seven Eight))
+
+-- 0 none, 1 odd, 2 even
+unfoldable pub parityNumbered : ℕ → Parity
+parityNumbered x = pick (eqb x 0) Inhibited (pick (eqb x 1) Odd Even)
+
+-- 0 one, 1 one and a half, 2 two
+unfoldable pub stopsNumbered : ℕ → Stops
+stopsNumbered x = pick (eqb x 0) One (pick (eqb x 1) OneAndHalf Two)
+
+-- from 36 on they are the same forms again
+unfoldable pub formNumbered : ℕ → Form
+formNumbered x = record { bits = bitsNumbered (x % 4); parity = parityNumbered (x / 4 % 3); stops = stopsNumbered (x / 12 % 3) }
+
+abbrev pub numberOf : Parity → ℕ
+numberOf Inhibited = 0
+numberOf Odd = 1
+numberOf Even = 2
+
+unfoldable pub parityNumber : Form → ℕ
+parityNumber f = numberOf (f .parity)
+
+-- the number of a form
+unfoldable pub formNumber : Form → ℕ
+formNumber f = dataBits f - 5 + 4 * parityNumber f + 12 * (stopCells f - 2)
