@@ -4,11 +4,12 @@
 --   extended, ended             the line with one more digit, the line with its number ended
 --   typed                       the line with one more byte
 --   Turned                      what is known of a read where the text comes from outside
+--   Heard                       what some text leaves, each of its bytes taken in turn
 -- Not here: which orders there are, in FORMAT.md; the line that is printed, in Printed.
 -- Assumes nothing.
 use mathlib.Core.Path.{_≡_}
 use mathlib.Core.Bool.{Bool, false}
-use mathlib.Core.List.{List}
+use mathlib.Core.List.{List, foldl}
 use Prim.Native.Nat.{ℕ, _+_, _*_, _%_}
 use lib.Dec.{ltb}
 use lib.ListN.{set, replicate}
@@ -46,3 +47,8 @@ typed l b = pick (isDigit b) (extended l b) (ended l)
 pub data Turned {A : Type 0} (on : A → List ℕ → A) (shut : A → A) (k j : A) : Type 0 where
   came : (text : List ℕ) → j ≡ on k text → Turned on shut k j
   silent : j ≡ shut k → Turned on shut k j
+
+-- some text was taken byte by byte from `first` on, and l is what it leaves
+pub record Heard {A : Type 0} (taken : A → ℕ → A) (first l : A) : Type 0 where
+  pub text : List ℕ
+  pub line : l ≡ foldl taken first text

@@ -3,7 +3,9 @@
 --   Fill       the words of order 21, filled one after the other
 --   Numerals   a number's decimal digits
 --   Lines      the bytes of a line, put one number after the other
+--   Heard      what some text leaves, from one read to the next
 pub mod Folds
 pub mod Fill
 pub mod Numerals
 pub mod Lines
+pub mod Heard

@@ -2,10 +2,8 @@
 --   answerTo         the answer to a line
 --   taken            the line after one byte of what is typed: the end of a line begins the next
 --   readOn, shut     what is kept after some bytes, and where there is no more to read
---   Heard            the line at the end: what some text leaves of a blank one
--- Not here: the sentences, which the stored output and the caretaker's page hold; one read from outside, in Text of the crate driver; what follows, in laws/.
+-- Not here: the sentences, which the stored output and the caretaker's page hold; one read from outside, and what some text leaves of a blank line, in Text of the crate driver; what follows, in laws/.
 -- Assumes nothing.
-use mathlib.Core.Path.{_≡_}
 use mathlib.Core.Bool.{false}
 use mathlib.Core.List.{List, foldl}
 use Prim.Native.Nat.{ℕ}
@@ -33,8 +31,3 @@ readOn r text = record { going = r .going; line = foldl taken (r .line) text }
 -- and where there is no more to read
 abbrev pub shut : Reader → Reader
 shut r = record { going = false; line = r .line }
-
--- the line at the end: some text was taken from a blank line on, and this is what it leaves
-pub record Heard (l : Line) : Type 0 where
-  pub text : List ℕ
-  pub line : l ≡ foldl taken blank text

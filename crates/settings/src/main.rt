@@ -11,8 +11,9 @@ use crate::typed::started;
 use crate::typed::typed;
 ghost use mathlib.Core.Path.{_≡_};
 ghost use mathlib.Core.List.{foldl};
-ghost use Rattle.driver.specs.Text.{Turned};
-ghost use Rattle.settings.specs.Answer.{taken, readOn, shut, Heard};
+ghost use Rattle.driver.specs.Text.{Turned, Heard};
+ghost use Rattle.settings.specs.Typed.{blank};
+ghost use Rattle.settings.specs.Answer.{taken, readOn, shut};
 
 // What is kept between two reads: whether there is more to read, and the line so far.
 struct Reader {
@@ -62,7 +63,7 @@ fn turn(r: Reader) -> Reader
 
 // All that is typed; the line at its end. The turns are counted down, from a number that no run uses up, since nothing says that the input ends.
 fn read_all() -> Line
-    ensures { λ r. ⌜ Heard r ⌝ }
+    ensures { λ r. ⌜ Heard taken blank r ⌝ }
 {
     let mut r = Reader {
         going: true,

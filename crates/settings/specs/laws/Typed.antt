@@ -2,7 +2,6 @@
 --   line-read               a line of three numbers below 2^32, a space between them, is answered by what an EDS-8's setup says of exactly those
 --   line-mighty             with a space and an m after them, by what a Mighty Mux's says
 --   line-anew               what was typed on the lines before leaves no trace
---   heard-none, heard-on    the line that is left, from one read to the next
 -- Not here: how a line is read, in specs/Typed; a number's digits, in Printed of the crate driver.
 -- Assumes nothing.
 use mathlib.Core.Path.{_≡_, refl, sym, ap, _∙_}
@@ -19,14 +18,13 @@ use Rattle.words.specs.Special.{set1974}
 use Rattle.interrupt.specs.declared.Kind.the-variants.{Eds8, MightyMux}
 use Rattle.unit.specs.declared.mux.Setting.{Setting}
 use Rattle.unit.specs.Refusals.{refusal, ofSetup}
-use Rattle.driver.specs.Text.{isDigit, Turned, came, silent}
+use Rattle.driver.specs.Text.{isDigit}
 use Rattle.driver.specs.Printed.{numeral, decimal}
 use Rattle.settings.specs.declared.typed.Line.{Line}
 use Rattle.settings.specs.declared.say.Answer.{Answer}
-use Rattle.settings.specs.declared.Reader.{Reader}
 use Rattle.settings.specs.Typed.{blank, begun, extended, digitTyped, spaced, typed, kindOf}
 use Rattle.settings.specs.Advice.{advised}
-use Rattle.settings.specs.Answer.{answerTo, taken, readOn, shut, Heard}
+use Rattle.settings.specs.Answer.{answerTo, taken}
 
 -- the line with one more number
 abbrev pub and : Line → ℕ → Line
@@ -118,18 +116,3 @@ line-mighty b n a h g f =
 pub line-anew : (t : Line) (text rest : List ℕ) → foldl taken t (text ++ (10 ∷ rest)) ≡ foldl taken blank rest
 unfolding taken pick
 line-anew t text rest = foldl-append taken t text (10 ∷ rest)
-
--- ---- what is read from outside
-
--- nothing was read yet
-pub heard-none : Heard blank
-heard-none = record { text = []; line = refl }
-
--- one more read
-pub heard-on : (r q : Reader) → Heard (r .line) → Turned readOn shut r q → Heard (q .line)
-heard-on r q h (came text e) =
-    record {
-      text = h .text ++ text;
-      line = ap (λ (p : Reader). p .line) e ∙ ap (λ (l : Line). foldl taken l text) (h .line) ∙ sym (foldl-append taken blank (h .text) text);
-    }
-heard-on r q h (silent e) = record { text = h .text; line = ap (λ (p : Reader). p .line) e ∙ h .line }
