@@ -5,7 +5,6 @@
 --   frameCell   the level of each cell
 -- Not here: where the bauds lie, in Form; what follows, in laws/Cells.
 -- Assumes nothing.
-use mathlib.Core.Bool.{Bool}
 use Prim.Native.Nat.{ℕ, _+_, _-_, _/_, _%_, _^_}
 use lib.Dec.{eqb, ltb}
 use lib.Count.{ones}

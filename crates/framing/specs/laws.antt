@@ -11,6 +11,7 @@
 --   Frames     what is read of a frame: the one law, and a frame as it was written
 --   Changed    a frame whose parity bit, first stop or data bit was changed on the way
 --   Any        what any list gives: cells after the first stop, and lists that read without a mark
+--   Outcomes   any two outcomes that a contract allows are equal
 --   Examples   the worked examples hold
 pub mod Form
 pub mod Cells
@@ -24,4 +25,5 @@ pub mod Levels
 pub mod Frames
 pub mod Changed
 pub mod Any
+pub mod Outcomes
 pub mod Examples

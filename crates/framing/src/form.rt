@@ -1,6 +1,5 @@
 // The form of a frame. Enums, so that no form has other than 5 to 8 data bits or fewer than two stop cells, and no call has to ask.
 ghost use mathlib.Core.Path.{_≡_};
-ghost use Prim.Native.Nat.{_<_};
 ghost use Rattle.ground.specs.Choose.{Below};
 ghost use Rattle.framing.specs.Form.{dataBits, hasParity, stopCells, firstStop, frameCells};
 

@@ -6,7 +6,6 @@ ghost use mathlib.Core.Path.{_≡_};
 ghost use Prim.Native.Nat.{_≤_};
 ghost use lib.ListN.{length};
 ghost use Rattle.ground.specs.laws.Arrays.{tabTo};
-ghost use Rattle.framing.specs.Form.{frameCells};
 ghost use Rattle.framing.specs.Cells.{frameCell};
 ghost use Rattle.framing.specs.Write.{wrote, writeFrame};
 

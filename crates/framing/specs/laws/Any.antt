@@ -5,10 +5,10 @@
 -- Not here: when reading is refused, in Refusals.
 -- Assumes nothing.
 use mathlib.Core.Path.{_≡_, refl, sym, _∙_, ap, subst, subst⁻¹}
-use mathlib.Core.Bool.{Bool, true, false, not, _&&_, _||_}
+use mathlib.Core.Bool.{Bool, true, false}
 use mathlib.Core.List.{List}
 use mathlib.Core.Logic.{_↔_, _⊎_, inl, inr}
-use Prim.Native.Nat.{ℕ, zero, suc, _+_, _-_, _*_, _/_, _%_, _^_, _<_, _≤_}
+use Prim.Native.Nat.{ℕ, suc, _+_, _-_, _*_, _/_, _%_, _^_, _<_, _≤_}
 use native.Mathlib.Nat.{mod-eq-of-lt}
 use native.Mathlib.Decide.{ℕ-discrete}
 use native.Mathlib.Numerals.{add-one}
@@ -16,14 +16,14 @@ use native.Mathlib.Omega.{arith}
 use lib.Dec.{eqb}
 use lib.ListN.{length, getD}
 use lib.Pow.{pow-pos}
-use borrow.Author.Tests.{eqb-true, eqb-false, not-true, not-false}
+use borrow.Author.Tests.{eqb-true, eqb-false, not-false}
 use Rattle.ground.specs.laws.Rows.{or-false}
 use Rattle.framing.specs.declared.form.Form.{Form}
 use Rattle.framing.specs.declared.read.Frame.{Frame}
 use Rattle.framing.specs.Form.{dataBits, hasParity, firstStop, frameCells}
 use Rattle.framing.specs.Cells.{space, mark, bitAt, limited, parityBit, baud, frameCell}
 use Rattle.framing.specs.Read.{level, levelAt, dataOf, parityMark, breakMark, readCode, frameRead, readFrame}
-use Rattle.framing.specs.laws.Form.{first-stop, stop-checked, frame-cells}
+use Rattle.framing.specs.laws.Form.{first-stop}
 use Rattle.framing.specs.laws.Cells.{baud-start, baud-data, baud-parity, baud-stop, first-half, second-half}
 use Rattle.framing.specs.laws.Read.{level-at-below, data-below}
 use Rattle.framing.specs.laws.Data.{data-same, bit-read}

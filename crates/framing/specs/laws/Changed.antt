@@ -9,7 +9,7 @@ use mathlib.Core.Path.{_≡_, refl, sym, _∙_, ap, subst⁻¹}
 use mathlib.Core.Bool.{Bool, true, false, not, _&&_, _||_}
 use mathlib.Core.List.{List}
 use mathlib.Core.Logic.{_⊎_, inl, inr}
-use Prim.Native.Nat.{ℕ, zero, suc, _+_, _-_, _*_, _%_, _^_, _<_, _≤_}
+use Prim.Native.Nat.{ℕ, suc, _+_, _-_, _*_, _%_, _^_, _<_, _≤_}
 use native.Mathlib.Nat.{mod-eq-of-lt}
 use native.Mathlib.Decide.{ℕ-discrete}
 use native.Mathlib.Numerals.{add-one}
@@ -24,7 +24,7 @@ use Rattle.framing.specs.Form.{dataBits, hasParity, firstStop, frameCell
 use Rattle.framing.specs.Cells.{space, mark, bitAt, limited, sense, parityBit}
 use Rattle.framing.specs.Write.{writeFrame}
 use Rattle.framing.specs.Read.{level, levelAt, dataOf, readFrame}
-use Rattle.framing.specs.laws.Form.{data-bits, first-stop, stop-checked, frame-cells}
+use Rattle.framing.specs.laws.Form.{first-stop, stop-checked, frame-cells}
 use Rattle.framing.specs.laws.Cells.{parity-below, bit-at-below}
 use Rattle.framing.specs.laws.Read.{level-at-below, data-below}
 use Rattle.framing.specs.laws.Data.{bit-read, countOf, ones-data, count-but-one}

@@ -1,15 +1,18 @@
 -- The form of an EDS-8's control bits (document 02, K3; 001, 4.2 bits 8 to 12).
 --   eds8-bits, eds8-cut        its length is the port's, and its cut the base's own
+--   eds8-back                  a frame written and read by it gives that cut, unmarked
 --   eds8-parity, eds8-sense    parity unless bit 8 inhibits it, even by bit 12
 --   eds8-stops                 two stop cells, or four: never three
 -- Not here: the map itself, in specs/Eds8; what an arrival makes of a character that was read, in wire.
 -- Assumes nothing.
-use mathlib.Core.Path.{_≡_, refl, sym, _∙_, ap}
+use mathlib.Core.Path.{_≡_, refl, _∙_, ap}
 use mathlib.Core.Bool.{Bool, true, false, not}
-use Prim.Native.Nat.{ℕ, zero, suc, _+_, _-_, _*_, _/_, _%_, _^_, _<_}
+use mathlib.Core.List.{List}
+use Prim.Native.Nat.{ℕ, zero, suc, _+_, _-_, _*_, _/_, _%_, _^_, _<_, _≤_}
 use native.Mathlib.Nat.{mod-lt}
 use native.Mathlib.Omega.{arith}
 use lib.Dec.{eqb, lit<}
+use lib.ListN.{length}
 use Rattle.ground.specs.Choose.{pick}
 use Rattle.words.specs.declared.field.Field.{Field}
 use Rattle.words.specs.Field.{get}
@@ -17,10 +20,13 @@ use Rattle.words.specs.Codes.{PARITY-INHIBIT, STOP-BAUDS, LENGTH, EVEN-PARITY}
 use Rattle.words.specs.Length.{lengthOf, spanOf, cut}
 use Rattle.framing.specs.declared.form.Parity.the-variants.{Inhibited, Odd, Even}
 use Rattle.framing.specs.declared.form.Stops.the-variants.{One, Two}
-use Rattle.framing.specs.Form.{bitsNumber, dataBits, checked, hasParity, halvesOf, stopCells}
+use Rattle.framing.specs.Form.{bitsNumber, dataBits, checked, hasParity, halvesOf, stopCells, frameCells}
 use Rattle.framing.specs.Cells.{limited, senseOf, sense}
+use Rattle.framing.specs.Write.{writeFrame}
+use Rattle.framing.specs.Read.{readFrame}
 use Rattle.framing.specs.Number.{bitsNumbered}
 use Rattle.framing.specs.Eds8.{bitsOf, parityOf, stopsOf, formOf}
+use Rattle.framing.specs.laws.Frames.{heard, reads-back}
 
 -- four codes, four lengths
 lengths : (k : ℕ) → k < 4 → bitsNumber (bitsNumbered k) ≡ 5 + k
@@ -44,6 +50,10 @@ eds8-bits control = lengths (get LENGTH control) (below LENGTH control (lit< tt)
 pub eds8-cut : (control c : ℕ) → limited (formOf control) c ≡ cut control c
 unfolding limited cut spanOf
 eds8-cut control c = ap (λ (n : ℕ). c % 2 ^ n) (eds8-bits control)
+
+-- a frame that is written and read by them gives the base's own cut, unmarked
+pub eds8-back : (control c : ℕ) (d : List ℕ) → frameCells (formOf control) ≤ length d → readFrame (formOf control) (writeFrame (formOf control) c d .cells) ≡ heard (formOf control) (cut control c) false false
+eds8-back control c d h = reads-back (formOf control) c d h ∙ ap (λ (x : ℕ). heard (formOf control) x false false) (eds8-cut control c)
 
 -- parity unless bit 8 inhibits it
 pub eds8-parity : (control : ℕ) → hasParity (formOf control) ≡ not (eqb (get PARITY-INHIBIT control) 1)

@@ -7,21 +7,20 @@
 use mathlib.Core.Path.{_≡_, refl, sym, _∙_, ap, subst⁻¹}
 use mathlib.Core.Bool.{Bool, true, false, not, _&&_, _||_}
 use mathlib.Core.List.{List}
-use mathlib.Core.Logic.{_↔_, _⊎_, inl, inr}
-use Prim.Native.Nat.{ℕ, zero, suc, _+_, _-_, _*_, _%_, _^_, _<_, _≤_}
+use mathlib.Core.Logic.{_⊎_, inl, inr}
+use Prim.Native.Nat.{ℕ, suc, _+_, _-_, _*_, _^_, _<_, _≤_}
 use native.Mathlib.Nat.{mod-mod}
 use native.Mathlib.Numerals.{add-one}
 use native.Mathlib.Omega.{arith}
 use lib.Dec.{eqb, ltb}
 use lib.ListN.{length}
-use lib.Count.{ones}
 use borrow.Author.Tests.{ltb-true, ltb-false, eq-eqb}
 use Rattle.framing.specs.declared.form.Form.{Form}
 use Rattle.framing.specs.declared.read.Frame.{Frame}
 use Rattle.framing.specs.Form.{dataBits, hasParity, firstStop, frameCells}
 use Rattle.framing.specs.Cells.{space, mark, bitAt, limited, parityBit, baud, frameCell}
 use Rattle.framing.specs.Write.{writeFrame}
-use Rattle.framing.specs.Read.{level, levelAt, dataOf, parityMark, breakMark, frameRead, readFrame}
+use Rattle.framing.specs.Read.{levelAt, dataOf, parityMark, breakMark, frameRead, readFrame}
 use Rattle.framing.specs.laws.Form.{first-stop, stop-checked, stop-unchecked, frame-cells}
 use Rattle.framing.specs.laws.Cells.{baud-start, baud-data, baud-parity, baud-stop, first-half, second-half}
 use Rattle.framing.specs.laws.Data.{data-cut}

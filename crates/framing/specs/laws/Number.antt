@@ -1,7 +1,7 @@
 -- Every form has its number, below 36, and no two forms the same; so there are 36 forms.
 -- Not here: the numbers, in specs/Number.
 -- Assumes nothing.
-use mathlib.Core.Path.{_≡_, refl, sym, _∙_, ap}
+use mathlib.Core.Path.{_≡_, refl}
 use Prim.Native.Nat.{ℕ, _+_, _-_, _*_, _/_, _%_, _<_}
 use native.Mathlib.Omega.{arith}
 use lib.Dec.{lit<}

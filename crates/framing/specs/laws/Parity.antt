@@ -3,7 +3,7 @@
 --   odd-parity, even-parity  so they are odd, or even
 -- Not here: the parity bit, in specs/Cells; the mark, in Changed.
 -- Assumes nothing.
-use mathlib.Core.Path.{_≡_, refl, _∙_, ap}
+use mathlib.Core.Path.{_≡_, _∙_, ap}
 use Prim.Native.Nat.{ℕ, _+_, _%_, _<_}
 use native.Mathlib.Omega.{arith}
 use lib.Dec.{lit<}

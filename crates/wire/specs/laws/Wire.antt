@@ -18,9 +18,8 @@ use Rattle.framing.specs.Form.{frameCells}
 use Rattle.framing.specs.Write.{writeFrame}
 use Rattle.framing.specs.Read.{readFrame}
 use Rattle.framing.specs.Eds8.{formOf}
-use Rattle.framing.specs.laws.Frames.{reads-back}
 use Rattle.framing.specs.laws.Any.{read-below}
-use Rattle.framing.specs.laws.Eds8.{eds8-bits, eds8-cut}
+use Rattle.framing.specs.laws.Eds8.{eds8-bits, eds8-back}
 use Rattle.unit.specs.declared.mux.Port.{Port}
 use Rattle.unit.specs.declared.mux.Mux.{Mux}
 use Rattle.unit.specs.Record.{portAt}
@@ -42,7 +41,7 @@ framedFor control c d = arrivalOf (readFrame (formOf control) (writeFrame (formO
 
 -- it is the character cut to the port's length, without a mark
 pub framed-arrival : (control c : ℕ) (d : List ℕ) → frameCells (formOf control) ≤ length d → framedFor control c d ≡ Arrival (cut control c) false false
-framed-arrival control c d h = ap arrivalOf (reads-back (formOf control) c d h) ∙ ap (λ (x : ℕ). Arrival x false false) (eds8-cut control c)
+framed-arrival control c d h = ap arrivalOf (eds8-back control c d h)
 
 cut-again : (control c : ℕ) → cut control (cut control c) ≡ cut control c
 unfolding cut

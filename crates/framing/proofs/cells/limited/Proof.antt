@@ -1,5 +1,5 @@
 -- `framing::cells::limited` meets its contract: a remainder is at most the character.
-use mathlib.Core.Path.{_≡_, sym, _∙_, ap, subst⁻¹}
+use mathlib.Core.Path.{_≡_, _∙_, ap, subst⁻¹}
 use Prim.Native.Nat.{ℕ, _*_, _%_, _^_, _<_}
 use native.Mathlib.Nat.{mod-le, one-mul}
 use native.Mathlib.Omega.{arith}

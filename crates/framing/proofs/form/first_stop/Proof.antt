@@ -1,7 +1,6 @@
 -- `framing::form::first_stop` meets its contract: the parity bit stands between the data and the stop, if there is one.
 use mathlib.Core.Path.{_≡_, sym, _∙_}
 use mathlib.Core.Bool.{true, false}
-use Prim.Native.Nat.{_+_}
 use native.Mathlib.Omega.{arith}
 use borrow.Author.Needs.{needs}
 use Rattle.framing.specs.Form.{hasParity}

@@ -2,7 +2,6 @@
 use mathlib.Core.Path.{sym}
 use lib.Dec.{lit<}
 use borrow.Author.Tests.{eq-eqb, ne-eqb}
-use borrow.Author.Needs.{needs}
 use Rattle.ground.specs.laws.Rows.{pick-true, pick-false}
 use Rattle.framing.specs.Read.{level}
 use Rattle.framing.proofs.read.level.Statement.{statement}

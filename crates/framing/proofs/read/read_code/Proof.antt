@@ -1,7 +1,7 @@
 -- `framing::read::read_code` meets its contract: 19, then the two tests of 20.
-use mathlib.Core.Path.{_≡_, refl, sym, _∙_, ap}
-use mathlib.Core.Bool.{Bool, true, false, _&&_}
-use Prim.Native.Nat.{ℕ, _-_, _<_, _≤_}
+use mathlib.Core.Path.{_≡_, refl, sym, _∙_}
+use mathlib.Core.Bool.{true, false}
+use Prim.Native.Nat.{_-_, _<_, _≤_}
 use native.Mathlib.Omega.{arith}
 use lib.ListN.{length}
 use denote.Ref.{now}
@@ -10,7 +10,7 @@ use borrow.Author.Needs.{needs}
 use Rattle.framing.specs.Form.{frameCells, firstStop}
 use Rattle.framing.specs.Read.{levelAt, startsWell, wholeTo}
 use Rattle.framing.specs.laws.Form.{data-bits, first-stop, frame-cells}
-use Rattle.framing.specs.laws.Refusals.{framed, code-19, code-20, code-0}
+use Rattle.framing.specs.laws.Refusals.{code-19, code-20, code-0}
 use Rattle.framing.proofs.read.read_code.Statement.{statement}
 use Rattle.framing.proofs.read.read_code.Tie as tie
 

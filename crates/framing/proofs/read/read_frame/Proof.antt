@@ -1,6 +1,5 @@
 -- `framing::read::read_frame` meets its contract: refused by its number, or what was read.
-use mathlib.Core.Path.{_≡_, refl, sym, _∙_}
-use Prim.Native.Nat.{ℕ}
+use mathlib.Core.Path.{_≡_, sym, _∙_}
 use denote.Ref.{now}
 use borrow.Author.Needs.{needs}
 use Rattle.framing.specs.Read.{readCode}

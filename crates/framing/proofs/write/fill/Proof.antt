@@ -1,5 +1,5 @@
 -- `framing::write::fill` meets its contract. The loop's invariant: the cells passed are the frame's, the rest as they were.
-use mathlib.Core.Path.{_≡_, refl, sym, _∙_, ap}
+use mathlib.Core.Path.{_≡_, refl, _∙_, ap}
 use Prim.Native.Nat.{ℕ, _-_, _<_, _≤_}
 use native.Mathlib.Numerals.{add-one}
 use native.Mathlib.Omega.{arith}

@@ -1,14 +1,11 @@
 -- `framing::write::write_frame` meets its contract: refused, or filled.
-use mathlib.Core.Path.{_≡_, refl, sym, _∙_, ap, ap₂}
-use Prim.Native.Nat.{ℕ, _<_, _≤_}
+use mathlib.Core.Path.{sym}
+use Prim.Native.Nat.{_<_, _≤_}
 use native.Mathlib.Omega.{arith}
 use lib.ListN.{length}
 use denote.Ref.{now}
 use borrow.Author.Needs.{needs}
-use Rattle.ground.specs.laws.Arrays.{tabTo}
 use Rattle.framing.specs.Form.{frameCells}
-use Rattle.framing.specs.Cells.{frameCell}
-use Rattle.framing.specs.Write.{wrote}
 use Rattle.framing.specs.laws.Refusals.{write-short, write-fits}
 use Rattle.framing.proofs.write.write_frame.Statement.{statement}
 use Rattle.framing.proofs.write.write_frame.Tie as tie
