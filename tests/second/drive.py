@@ -7,22 +7,28 @@ at each change instead of being computed anew.
 from functools import lru_cache
 
 import mux2
+import wire2
 
 MODULUS, FACTOR = 2147483647, 65599
 SETUP, ARRIVAL, TRANSMITTED, DEVICE_STATUS = 1, 2, 3, 4
 RESET, IOPLS, START, DOC, DOB, DIA, DIAS, TICK = range(5, 13)
 INSPECT, SWEEP = 13, 14
 KIND, POKE_STACK = 15, 16
+CELLS, FILL_CELLS, LEND = 17, 18, 19
 WRITE, FILL, WORDS, PLACES, POKE, POKE_PORT, SPEED = range(20, 27)
 CODE, CODES, POKE_CODE = range(27, 30)
 DIGEST, END = 30, 31
-CALLS = range(SETUP, SWEEP + 1)
-PRINTED = (*CALLS, SPEED, DIGEST, END)            # the orders that print a line
+FRAME, READ, FORM, FROM_WIRE = range(32, 36)
+UNIT_CALLS = range(SETUP, SWEEP + 1)
+CALLS = (*UNIT_CALLS, FRAME, READ, FROM_WIRE)
+PRINTED = (*CALLS, SPEED, DIGEST, END, FORM)      # the orders that print a line
 NAMES = {1: 'setup', 2: 'arrival', 3: 'transmitted', 4: 'device_status', 5: 'reset', 6: 'iopls',
          7: 'start', 8: 'doc', 9: 'dob', 10: 'dia', 11: 'dias', 12: 'tick', 13: 'inspect',
-         14: 'sweep', 15: 'kind', 16: 'poke stack', 20: 'host write', 21: 'fill memory', 22: 'memory lent', 23: 'list lent',
+         14: 'sweep', 15: 'kind', 16: 'poke stack', 17: 'four cells', 18: 'fill cells', 19: 'cells lent',
+         20: 'host write', 21: 'fill memory', 22: 'memory lent', 23: 'list lent',
          24: 'poke', 25: 'poke port', 26: 'speed', 27: 'code of the set', 28: 'whole set', 29: 'poke code',
-         30: 'whole digest', 31: 'end of session'}
+         30: 'whole digest', 31: 'end of session', 32: 'frame written', 33: 'frame read', 34: 'form',
+         35: 'arrival from the wire'}
 FIELDS = ('block', 'ports', 'base', 'pos', 'runs', 'clock', 'irq', 'status', 'kind', 'lost', 'fill')
 PORT_FIELDS = mux2.Port._fields
 
@@ -107,19 +113,26 @@ def set_part(codes):
     return sum(w * yes for w, yes in zip(SET_WEIGHTS, codes))
 
 
+@lru_cache(maxsize=32768)
+def cells_digest(cells):
+    """The digest of the cells; reading leaves them as they are, and a session that is driven again has the same ones."""
+    return digest(cells)
+
+
 def numbers_of(port):
     return port[:6] + (mux2.BYTE_OF[port.control],) + port[7:]
 
 
 class Driver:
-    """A second program, the digests of what it holds, the kind and the set that a setup is given."""
+    """A second program, the digests of what it holds, the kind and the set that a setup is given, and a line with its cells."""
 
-    def __init__(self, program=mux2.Mux2):
-        self.program = program
+    def __init__(self, program=mux2.Mux2, wire=wire2.Wire):
+        self.program, self.wire_program = program, wire
         self.new_session()
 
     def new_session(self):
         self.mux = self.program(WatchedMemory())
+        self.wire = self.wire_program()
         self.record_digest = RecordDigest()
         self.codes = self.program.set_1974
         self.kind = mux2.EDS_8
@@ -127,7 +140,7 @@ class Driver:
     def drive(self, order):
         """Carries one order out; the line to print, or None."""
         op, rest = order[0], order[1:]
-        mux, memory = self.mux, self.mux.memory
+        mux, memory, wire = self.mux, self.mux.memory, self.wire
         if op == INSPECT:
             code, answer = mux.inspect()
             return self.line(op, code, *answer, self.record(), self.window(rest[0]))
@@ -143,7 +156,7 @@ class Driver:
         if op in (DIA, DIAS):
             code, value = getattr(mux, NAMES[op])()
             return self.line(op, code, value, self.record())
-        if op in CALLS:
+        if op in UNIT_CALLS:
             return self.line(op, getattr(mux, NAMES[op])(*rest), self.record())
         if op == WRITE:
             mux.host_write(*rest)
@@ -172,6 +185,19 @@ class Driver:
             self.codes = (mux2.NO_CODE, mux2.EVERY_CODE, self.program.set_1974)[rest[0]]
         elif op == POKE_CODE:
             mux.record.codes = mux2.with_code(mux.record.codes, *rest)
+        elif op == CELLS:
+            wire.put(*rest)
+        elif op == FILL_CELLS:
+            wire.fill(*rest)
+        elif op == LEND:
+            wire.lend(*rest)
+        elif op in (FRAME, READ):
+            told = wire.write(*rest) if op == FRAME else wire.read(*rest)
+            return self.line(op, *told, cells_digest(bytes(wire.cells)))
+        elif op == FORM:
+            return self.line(op, wire.form(*rest))
+        elif op == FROM_WIRE:
+            return self.line(op, *wire.arrive(mux, *rest), self.record())
         elif op in (DIGEST, END):
             line = self.line(op, memory.digest(), digest(mux.places))
             if op == END:

@@ -1,9 +1,10 @@
 #!/bin/sh
 # The fixed sessions of the gate: the second program's own checks, the proved library against the second program, wrong
-# second programs that the sessions must tell apart, and the caretakers' program against the second program's setup. One line
-# for each, and how many passed.
+# second programs that the sessions must tell apart, the caretakers' program against the second program's setup and the
+# hobbyist's program against its frames. One line for each, and how many passed.
 #
-#   tests/second/gate.sh [FOLDER]      FOLDER has the programs `compared` and `settings`, as `rt check` builds them (default: target/bin)
+#   tests/second/gate.sh [FOLDER]      FOLDER has the programs `compared`, `settings` and `picture`, as `rt check` builds them
+#                                      (default: target/bin)
 here=$(cd "$(dirname "$0")" && pwd)
 built=${1:-$here/../../target/bin}
 page=$here/../../docs/CARETAKER.md
@@ -29,13 +30,15 @@ play() {
     sh "$here/../run.sh" "$built/$1" <"$room/$2" >"$room/$3" && echo "$(wc -l <"$room/$3") lines printed"
 }
 
-# The caretakers' program on short texts that end in different ways.
+# A program on short texts that end in different ways: its name, the checker of its answers and what that reads besides.
 endings() {
-    last=$(python3 "$here/settings2.py" --last) || return 1
+    program=$1 checker=$here/$2
+    shift 2
+    last=$(python3 "$checker" --last) || return 1
     while [ "$last" -gt 0 ]; do
         last=$((last - 1))
-        python3 "$here/settings2.py" --last "$last" "$room/short" && play settings short ended >"$room/lines" || return 1
-        python3 "$here/settings2.py" --check "$room/short" "$room/ended" "$page" --some || return 1
+        python3 "$checker" --last "$last" "$room/short" && play "$program" short ended >"$room/lines" || return 1
+        python3 "$checker" --check "$room/short" "$room/ended" "$@" --some || return 1
     done
 }
 
@@ -58,7 +61,11 @@ step 'proved library agrees' python3 "$here/compare.py" "$room/text" "$room/expe
 step 'settings written' python3 "$here/settings2.py" --write "$room/settings"
 step 'caretakers program reads them' play settings settings told
 step 'caretakers program agrees' python3 "$here/settings2.py" --check "$room/settings" "$room/told" "$page"
-step 'caretakers program ends well' endings
+step 'caretakers program ends well' endings settings settings2.py "$page"
+step 'pictures written' python3 "$here/picture2.py" --write "$room/pictures"
+step 'picture program reads them' play picture pictures drawn
+step 'picture program agrees' python3 "$here/picture2.py" --check "$room/pictures" "$room/drawn"
+step 'picture program ends well' endings picture picture2.py
 step 'wrong programs told apart' tried
 echo "$passed passed, $failed failed"
 [ "$failed" -eq 0 ]

@@ -1,10 +1,10 @@
 """Wrong second programs, each with one error, that the fixed sessions must tell from the right one.
 
-A mutant is mux2.py with one piece of its text replaced, seldom more. The test fails if a
-mutant prints every line of the fixed set as mux2 does. Those marked `seen` are the
-errors that document 01 has seen other emulators make. Those of K5 must be told apart
-by the session of the sets, those of K6 by the sessions of the stack, those of K7 by the session
-of the bases of a Mighty Mux, the others by the other sessions.
+A mutant is mux2.py, or wire2.py, with one piece of its text replaced, seldom more. The test fails if a
+mutant prints every line of the fixed set as the right program does. Those marked `seen` are the
+errors that document 01 has seen other emulators make. Those of K3 must be told apart by the sessions
+of the wire, those of K5 by the session of the sets, those of K6 by the sessions of the stack, those of
+K7 by the session of the bases of a Mighty Mux, the others by the other sessions.
 
     mutants.py [--quiet]
 """
@@ -18,7 +18,7 @@ import drive
 import mux2
 import sessions
 
-SOURCE = pathlib.Path(__file__).with_name('mux2.py').read_text()
+SOURCE, WIRE_SOURCE = (pathlib.Path(__file__).with_name(name).read_text() for name in ('mux2.py', 'wire2.py'))
 
 # The line of mux2.py that holds each row of setup's table, by its number.
 ROWS = {int(line.split(':')[0]): line for line in SOURCE.splitlines(keepends=True)
@@ -1234,21 +1234,474 @@ BASE_MUTANTS = [
 ]
 
 
-def program(*texts):
-    """The second program with each piece of its text in `texts` replaced by the one that follows it."""
-    source = SOURCE
+# Framing (02, K3), as wire2.py has it: how long a frame is, what writing and reading ask, what an arrival is given.
+LONG = "return 2 * (1 + form.bits + (form.parity != NONE)) + form.stops"
+CUTS, BAUDS = "    data = cut(form, character)\n", "[SPACE] + data + parity_bits(form, data) + [MARK, MARK]"
+SOUNDS = "(baud, baud)"
+HAS_ROOM = "        if room < length(form):\n"
+NO_ROOM = "            return NO_ROOM, 0\n"
+WRITTEN = "        cells = frame(form, byte)\n        self.cells[self.first:self.first + len(cells)] = bytes(cells)\n"
+USED = "        return 0, len(cells)\n"
+LEVEL = "SPACE if cell == 0 else MARK for cell in cells[:length(form)]"
+LONG_ENOUGH = "    if len(cells) < length(form):\n        return Reading(TOO_SHORT, 0, 0, 0)\n"
+APART = "    start, data, parity, stop = taken_apart(form, cells)\n"
+IS_FRAME = "start != (SPACE, SPACE) or any(first != second for first, second in data + parity)"
+NOT_FRAME = "        return Reading(NO_FRAME, 0, 0, 0)\n"
+FIRST_HALVES = "    bits = [first for first, second in data]\n"
+BYTE = "    byte = sum(bit * 2 ** place for place, bit in enumerate(bits))\n"
+WRONG_PARITY = "    wrong = [first for first, second in parity] != parity_bits(form, bits)\n"
+GIVEN = "    return Reading(0, byte, int(wrong), int(SPACE in stop))\n"
+READS_USED = "        return (*reading, 0 if reading.code else length(form))\n"
+READS_LENT = "        cells = self.lent()\n        reading = read(form, cells)\n"
+NUMBERS = "NO_ROOM, TOO_SHORT, NO_FRAME = 18, 19, 20 "
+ITS_FORM = "        form = form_of(mux.record.port[port % mux2.ARRAY].control)\n"
+ARRIVES = "            called = mux.arrival(port, reading.byte, reading.parity, reading.brk)\n"
+IF_READ = "        if reading.code == 0:\n            called"
+ARRIVED = "        return (*reading, called)\n"
+
+
+def stored(count, cells):
+    """A statement that puts so many cells into the list, from its first on."""
+    return f"self.cells[self.first:self.first + {count}] = bytes({cells})\n"
+
+
+# Wrong lengths of a frame, for writing and reading alike.
+WRONG_LENGTHS = {
+    'one stop cell too few': "form.stops - 1", 'one stop cell too many': "form.stops + 1",
+    'one and a half stops as two': "(form.stops if form.stops != 3 else 4)",
+    'one and a half stops as one': "(form.stops if form.stops != 3 else 2)",
+    'one and a half stops with 5 bits alone': "(4 if form.stops == 3 and form.bits > 5 else form.stops)",
+    'two stops as one and a half': "min(form.stops, 3)", 'two stops as one and a half with 5 bits':
+    "(3 if form.stops == 4 and form.bits == 5 else form.stops)", 'two stops as one': "(form.stops if form.stops != 4 else 2)",
+    'one stop as two': "max(form.stops, 3 if form.stops == 3 else 4)", 'one stop as one and a half': "max(form.stops, 3)",
+    'one stop as one cell': "(form.stops if form.stops != 2 else 1)",
+    **{f'a cell too few at {bits} bits': f"form.stops - (form.bits == {bits})" for bits in (5, 6, 7, 8)},
+}
+
+# Wrong parity bits of `data`, each put in for writing alone and for reading alone.
+WRONG_PARITIES = {
+    'odd and even exchanged': "[1 - bit for bit in parity_bits(form, data)]",
+    'odd always': "parity_bits(form._replace(parity=form.parity and ODD), data)",
+    'even always': "parity_bits(form._replace(parity=form.parity and EVEN), data)",
+    'always a space': "[0 for _ in parity_bits(form, data)]",
+    'always a mark': "[1 for _ in parity_bits(form, data)]",
+    'a count of the zeros': "parity_bits(form, [1 - bit for bit in data])",
+    'the first bit not counted': "parity_bits(form, data[1:])",
+    'the last bit not counted': "parity_bits(form, data[:-1])",
+    'the last bit alone counted': "parity_bits(form, data[-1:])",
+    'only whether there are ones': "parity_bits(form, [max(data)])",
+    'seven bits counted at most': "parity_bits(form, data[:7])",
+    'six bits counted at most': "parity_bits(form, data[:6])",
+    'wrong of no ones': "[bit ^ (1 not in data) for bit in parity_bits(form, data)]",
+    'wrong of ones alone': "[bit ^ (0 not in data) for bit in parity_bits(form, data)]",
+    'wrong of more ones than four': "[bit ^ (data.count(1) > 4) for bit in parity_bits(form, data)]",
+    **{f'wrong of {parity} at {bits} bits': f"[bit ^ (form[:2] == ({bits}, {parity})) for bit in parity_bits(form, data)]"
+       for parity in ('ODD', 'EVEN') for bits in (5, 6, 7, 8)},
+    **{f'wrong with {stops} stop cells': f"[bit ^ (form.stops == {stops}) for bit in parity_bits(form, data)]"
+       for stops in (2, 3, 4)},
+}
+
+# Wrong frames: a piece of the rule and what stands in its place.
+WRONG_FRAMES = {
+    'highest bit first': (CUTS, "    data = cut(form, character)[::-1]\n"),
+    **{f'highest bit first at {bits} bits': (CUTS, f"    data = cut(form, character)[::-1 if form.bits == {bits} else 1]\n")
+       for bits in (5, 6, 7, 8)},
+    'all eight bits sent': (CUTS, "    data = cut(form._replace(bits=8), character)\n"),
+    'the character cut from above': (CUTS, "    data = cut(form, character // 2 ** (8 - form.bits))\n"),
+    'the top bit not sent': (CUTS, CUTS + "    data[-1] = 0\n"),
+    'bits turned round': (CUTS, CUTS + "    data = [1 - bit for bit in data]\n"),
+    'parity over eight bits': (BAUDS, BAUDS.replace("form, data", "form, cut(form._replace(bits=8), character)")),
+    'parity over seven bits': (BAUDS, BAUDS.replace("form, data", "form, cut(form._replace(bits=7), character)")),
+    'even parity where none is asked for': (BAUDS, BAUDS.replace("(form,", "(form._replace(parity=form.parity or EVEN),")),
+    'odd parity where none is asked for': (BAUDS, BAUDS.replace("(form,", "(form._replace(parity=form.parity or ODD),")),
+    'no parity bit': (BAUDS, "[SPACE] + data + [MARK, MARK, MARK]"),
+    'parity before the data': (BAUDS, "[SPACE] + parity_bits(form, data) + data + [MARK, MARK]"),
+    'parity after the first stop': (BAUDS, "[SPACE] + data + [MARK] + parity_bits(form, data) + [MARK]"),
+    'a mark for the start': (BAUDS, BAUDS.replace("[SPACE]", "[MARK]")),
+    'no start': (BAUDS, BAUDS.replace("[SPACE] + ", "") + " + [MARK]"),
+    'two starts': (BAUDS, BAUDS.replace("[SPACE]", "[SPACE, SPACE]")),
+    'spaces for the stops': (BAUDS, BAUDS.replace("[MARK, MARK]", "[SPACE, SPACE]")),
+    'a space for the first stop': (BAUDS, BAUDS.replace("[MARK, MARK]", "[SPACE, MARK]")),
+    'a space for later stops': (BAUDS, BAUDS.replace("[MARK, MARK]", "[MARK, SPACE]")),
+    'one cell a bit': (SOUNDS, "(baud,)"),
+    'three cells a bit': (SOUNDS, "(baud, baud, baud)"),
+    'second halves spaces': (SOUNDS, "(baud, SPACE)"), 'first halves spaces': (SOUNDS, "(SPACE, baud)"),
+    'second halves marks': (SOUNDS, "(baud, MARK)"), 'second halves turned round': (SOUNDS, "(baud, 1 - baud)"),
+    **{f'marks written as {byte}': (SOUNDS, f"({byte} * baud, {byte} * baud)") for byte in (2, 128, 255)},
+    'spaces written as marks of 2': (SOUNDS, "(baud or 2, baud or 2)"),
+    'one cell too few written': ("][:length(form)]", "][:length(form) - 1]"),
+    'later stops not written': ("][:length(form)]", "][:length(form) - form.stops + 2]"),
+    'stops not written': ("][:length(form)]", "][:length(form) - form.stops]"),
+    'marks alone written': (WRITTEN, WRITTEN.replace("bytes(cells)", "bytes(map(max, cells, self.lent()))")),
+    'spaces alone written': (WRITTEN, WRITTEN.replace("bytes(cells)", "bytes(map(int.__mul__, cells, self.lent()))")),
+
+    # What is lent, and what stays.
+    'written one cell on': (WRITTEN, WRITTEN.replace("self.first:self.first +", "self.first + 1:self.first + 1 +")),
+    'written from the first cell of the line on': (WRITTEN, WRITTEN.replace("self.first:self.first + ", ":")),
+    **{f'a {level.lower()} set past the frame': (
+        WRITTEN, WRITTEN.replace("byte)\n", f"byte)\n        cells += [{level}][:room - len(cells)]\n"),
+        USED, USED.replace("len(cells)", "length(form)")) for level in ('MARK', 'SPACE')},
+    'the list cleared past the frame': (WRITTEN, WRITTEN + "        self.cells[self.first + len(cells):self.first + room] = "
+                                        "bytes(room - len(cells))\n"),
+    'the list cleared first, where it is longer': (
+        WRITTEN, f"        if room > length(form):\n            {stored('room', 'room')}{WRITTEN}"),
+    'the cell past the list set': (WRITTEN, WRITTEN + "        self.put(min(self.first + room, CELLS - 1), 0x01010101)\n"),
+    'the cell before the frame set': (WRITTEN, WRITTEN + "        self.cells[max(self.first - 1, 0)] = SPACE\n"),
+    'the rest of the line cleared': (WRITTEN, WRITTEN + "        self.cells[self.first + len(cells):] = "
+                                     "bytes(CELLS - self.first - len(cells))\n"),
+    'cells used without the stops': (USED, "        return 0, len(cells) - form.stops\n"),
+    'cells used without later stops': (USED, "        return 0, len(cells) - form.stops + 2\n"),
+    'bits used for cells': (USED, "        return 0, len(cells) // 2\n"),
+    'room for cells used': (USED, "        return 0, room\n"),
+
+    # Refusal 18.
+    **{f'18 {name}': (HAS_ROOM, f"        if room < {wrong}:\n", WRITTEN, WRITTEN.replace("form, byte)", "form, byte)[:room]"))
+       for name, wrong in (
+           ('without the stops', "length(form) - form.stops"), ('without later stops', "length(form) - form.stops + 2"),
+           ('one cell late', "length(form) - 1"), ('one cell early', "length(form) + 1"),
+           ('by two stops', "length(form._replace(stops=4))"), ('by one stop', "length(form._replace(stops=2))"),
+           ('by eight bits', "length(form._replace(bits=8))"), ('by five bits', "length(form._replace(bits=5))"),
+           ('with a parity bit always', "length(form._replace(parity=EVEN))"),
+           ('without a parity bit', "length(form._replace(parity=NONE))"), ('by the longest frame', "24"),
+           ('by the shortest frame', "14"), ('for an empty list alone', "min(1, length(form))"), ('never', "0"),
+           ('in bits', "length(form) // 2"), ('without the start', "length(form) - 2"))},
+    '18 by the rest of the line': (HAS_ROOM, "        room = CELLS - self.first\n" + HAS_ROOM),
+    '18 by the cells asked for': (HAS_ROOM, "        room = self.count\n" + HAS_ROOM),
+    **{f'refused writing {name}': (NO_ROOM, f"            cells = {wrong}\n            {stored('len(cells)', 'cells')}{NO_ROOM}")
+       for name, wrong in (
+           ('writes what fits', "frame(form, byte)[:room]"), ('writes the start', "[SPACE, SPACE][:room]"),
+           ('clears the list', "[SPACE] * room"), ('writes past the list', "frame(form, byte)[:CELLS - self.first]"))},
+    'refused writing tells the cells': (NO_ROOM, "            return NO_ROOM, length(form)\n"),
+    'refused writing tells the room': (NO_ROOM, "            return NO_ROOM, room\n"),
+}
+
+# Wrong readings of a frame: a piece of the rule and what stands in its place.
+PADDED = "        return Reading(TOO_SHORT, 0, 0, 0)\n    cells = [*cells, *[{}] * 24]\n"
+ANY_DIFFER = "any(first != second for first, second in data + parity)"
+REFUSED_20 = "return Reading(NO_FRAME, 0, 0, 0)\n"
+STOP_CELLS = "cells[length(form) - form.stops:length(form)]"
+WRONG_LINE_READINGS = {
+    # Levels.
+    **{f'a byte read: {name}': (LEVEL, LEVEL.replace("SPACE if cell == 0 else MARK", wrong)) for name, wrong in (
+        ('1 alone is a mark', "int(cell == 1)"), ('by its lowest bit', "cell % 2"), ('by its top bit', "cell // 128"),
+        ('255 is a space', "int(0 < cell < 255)"), ('2 is a space', "int(cell not in (0, 2))"),
+        ('128 and above are spaces', "int(0 < cell < 128)"), ('mark and space exchanged', "int(cell == 0)"),
+        ('more than 1 is a mark', "int(cell > 1)"))},
+    'halves compared as bytes': (IS_FRAME, IS_FRAME.replace(ANY_DIFFER, "cells[2:2 * len(data + parity) + 2:2] != "
+                                                            "cells[3:2 * len(data + parity) + 3:2]")),
+    'halves of the parity bit compared as bytes': (IS_FRAME, IS_FRAME.replace(
+        ANY_DIFFER, f"{ANY_DIFFER} or (parity and cells[2 + 2 * form.bits] != cells[3 + 2 * form.bits])")),
+
+    # Refusal 19.
+    **{f'19 {name}{pad}': (LONG_ENOUGH, f"    if len(cells) < {wrong}:\n" + PADDED.format(level))
+       for pad, level in ((', marks for what is missing', 1), (', spaces for what is missing', 0)) for name, wrong in (
+           ('without the stops', "length(form) - form.stops"), ('without later stops', "length(form) - form.stops + 2"),
+           ('without half a stop', "length(form) - form.stops + 1"), ('one cell late', "length(form) - 1"),
+           ('without the parity bit', "length(form._replace(parity=NONE))"), ('by one stop', "length(form._replace(stops=2))"),
+           ('by five bits', "length(form._replace(bits=5))"), ('for an empty list alone', "1"), ('never', "0"),
+           ('without the start', "length(form) - 2"), ('in bits', "length(form) // 2"))},
+    **{f'19 {name}': (LONG_ENOUGH, LONG_ENOUGH.replace("length(form)", wrong)) for name, wrong in (
+        ('one cell early', "length(form) + 1"), ('by two stops', "length(form._replace(stops=4))"),
+        ('by eight bits', "length(form._replace(bits=8))"), ('with a parity bit always', "length(form._replace(parity=EVEN))"),
+        ('by the longest frame', "24"))},
+    '20 before 19, by the start': (LONG_ENOUGH, f"    if any(cells[:2]):\n        {REFUSED_20}" + LONG_ENOUGH),
+    '20 before 19, by the first cell': (LONG_ENOUGH, f"    if any(cells[:1]):\n        {REFUSED_20}" + LONG_ENOUGH),
+    '20 before 19, by halves': (
+        LONG_ENOUGH, "    if any(bool(one) != bool(other) for one, other in zip(cells[2:2 * form.bits + 2:2], cells[3::2])):\n"
+        f"        {REFUSED_20}" + LONG_ENOUGH),
+    '20 for a list that ends in half a bit': (LONG_ENOUGH, "    if len(cells) < length(form) and len(cells) % 2:\n"
+                                              f"        {REFUSED_20}" + LONG_ENOUGH),
+    '20 for an empty list': (LONG_ENOUGH, f"    if not cells:\n        {REFUSED_20}" + LONG_ENOUGH),
+    '20 for a list without its start': (LONG_ENOUGH, f"    if len(cells) < 2:\n        {REFUSED_20}" + LONG_ENOUGH),
+
+    # Refusal 20.
+    **{f'start: {name}': (IS_FRAME, IS_FRAME.replace("start != (SPACE, SPACE)", wrong)) for name, wrong in (
+        ('first half not looked at', "start[1] != SPACE"), ('second half not looked at', "start[0] != SPACE"),
+        ('not looked at', "False"), ('either half will do', "start == (MARK, MARK)"),
+        ('halves compared alone', "start[0] != start[1]"),
+        ('two marks wanted', "start != (MARK, MARK)"), ('refused where 1 stands alone', "1 in cells[:2]"),
+        *((f'not looked at, at {bits} bits', f"form.bits != {bits} and start != (SPACE, SPACE)") for bits in (5, 6, 7, 8)))},
+    **{f'halves: {name}': (IS_FRAME, IS_FRAME.replace(ANY_DIFFER, wrong)) for name, wrong in (
+        ('not compared', "False"), ('of data not compared', ANY_DIFFER.replace("data + parity", "parity")),
+        ('of the parity bit not compared', ANY_DIFFER.replace("data + parity", "data")),
+        ('of the first data bit not compared', ANY_DIFFER.replace("data +", "data[1:] +")),
+        ('of the last data bit not compared', ANY_DIFFER.replace("data +", "data[:-1] +")),
+        ('of the last bit not compared', ANY_DIFFER.replace("data + parity", "(data + parity)[:-1]")),
+        ('space and mark let pass', ANY_DIFFER.replace("!=", ">")), ('mark and space let pass', ANY_DIFFER.replace("!=", "<")),
+        ('of one bit let pass', f"sum{ANY_DIFFER[3:]} > 1"), ('of all bits must differ', f"all{ANY_DIFFER[3:]}"),
+        ('of the first stop compared as well', ANY_DIFFER.replace("parity", "parity + [stop]")),
+        ('of the first bit alone compared', ANY_DIFFER.replace("data +", "data[:1] +")),
+        *((f'of data bit {place} not compared', ANY_DIFFER.replace("data +", f"data[:{place}] + data[{place + 1}:] +"))
+          for place in range(1, 7)),
+        *((f'not compared at {bits} bits', f"(form.bits != {bits} and {ANY_DIFFER})") for bits in (5, 6, 7, 8)),
+        *((f'not compared with {stops} stop cells', f"(form.stops != {stops} and {ANY_DIFFER})") for stops in (2, 3, 4)))},
+    'second halves of data that differ taken': (
+        IS_FRAME, IS_FRAME.replace("data + parity", "parity"), FIRST_HALVES, FIRST_HALVES.replace("[first for", "[second for")),
+    'marks in either half of data that differ taken': (
+        IS_FRAME, IS_FRAME.replace("data + parity", "parity"),
+        FIRST_HALVES, FIRST_HALVES.replace("[first for", "[first | second for")),
+    'halves of the parity bit that differ are the parity mark': (
+        IS_FRAME, IS_FRAME.replace("data + parity", "data"),
+        WRONG_PARITY, "    wrong = parity != [(bit, bit) for bit in parity_bits(form, bits)]\n"),
+    'halves of the parity bit that differ pass': (
+        IS_FRAME, IS_FRAME.replace("data + parity", "data"),
+        WRONG_PARITY, WRONG_PARITY.replace("    wrong =", "    wrong = all(one == other for one, other in parity) and")),
+    'second half of a parity bit whose halves differ taken': (
+        IS_FRAME, IS_FRAME.replace("data + parity", "data"), WRONG_PARITY, WRONG_PARITY.replace("[first for", "[second for")),
+    'halves of the parity bit that differ are the break mark': (
+        IS_FRAME, IS_FRAME.replace("data + parity", "data"),
+        GIVEN, GIVEN.replace("int(SPACE in stop)", "int(SPACE in stop or any(one != other for one, other in parity))")),
+    'refused reading gives the character': (
+        NOT_FRAME, "        return Reading(NO_FRAME, sum(first * 2 ** place for place, (first, _) in enumerate(data)), 0, 0)\n"),
+    'refused reading gives the parity mark': (NOT_FRAME, NOT_FRAME.replace("0, 0)", "1, 0)")),
+    'refused reading gives the break mark': (NOT_FRAME, NOT_FRAME.replace("0, 0)", "0, int(SPACE in stop))")),
+    'too short a list gives the character': (
+        LONG_ENOUGH, LONG_ENOUGH.replace("TOO_SHORT, 0,", "TOO_SHORT, sum(2 ** place for place, cell in "
+                                         "enumerate(cells[2:2 * form.bits + 2:2]) if cell),")),
+    'too short a list gives the break mark': (LONG_ENOUGH, LONG_ENOUGH.replace("0, 0, 0)", "0, 0, 1)")),
+
+    # The character.
+    'highest bit read first': (BYTE, BYTE.replace("enumerate(bits)", "enumerate(bits[::-1])")),
+    **{f'highest bit read first at {bits} bits': (
+        BYTE, BYTE.replace("enumerate(bits)", f"enumerate(bits[::-1 if form.bits == {bits} else 1])")) for bits in (5, 6, 7, 8)},
+    'character read to the left': (BYTE, BYTE.replace("** place", "** (place + 8 - form.bits)")),
+    'character cut to seven bits': (BYTE, BYTE + "    byte %= 128\n"),
+    'character of seven bits with its top bit 1': (BYTE, BYTE + "    byte += 128 * (form.bits == 7)\n"),
+    'character with ones above its length': (BYTE, BYTE + "    byte += 256 - 2 ** form.bits\n"),
+    'character with its parity bit': (BYTE, BYTE + "    byte += 2 ** form.bits * sum(first for first, _ in parity)\n"),
+    'character turned round': (BYTE, BYTE + "    byte = 2 ** form.bits - 1 - byte\n"),
+    'no character where the parity is wrong': (GIVEN, "    byte = 0 if wrong else byte\n" + GIVEN),
+    'no character where there is a break': (GIVEN, "    byte = 0 if SPACE in stop else byte\n" + GIVEN),
+
+    # The parity mark.
+    'parity mark never': (GIVEN, GIVEN.replace("int(wrong)", "0")),
+    'parity mark turned round': (GIVEN, GIVEN.replace("int(wrong)", "int(form.parity != NONE and not wrong)")),
+    'parity mark where there is no parity bit': (GIVEN, GIVEN.replace("int(wrong)", "int(wrong or form.parity == NONE)")),
+    'parity mark lost where there is a break': (GIVEN, GIVEN.replace("int(wrong)", "int(wrong and SPACE not in stop)")),
+    'parity mark where there is a break': (GIVEN, GIVEN.replace("int(wrong)", "int(wrong or SPACE in stop)")),
+    'parity mark where there is a break, with parity': (
+        GIVEN, GIVEN.replace("int(wrong)", "int(wrong or (form.parity != NONE and SPACE in stop))")),
+    'parity mark of a wrong space alone': (GIVEN, GIVEN.replace("int(wrong)", "int(wrong and parity[0] == (SPACE, SPACE))")),
+    'parity mark of a wrong mark alone': (GIVEN, GIVEN.replace("int(wrong)", "int(wrong and parity[0] == (MARK, MARK))")),
+    'parity mark refused with 20': (GIVEN, f"    if wrong:\n        {REFUSED_20}" + GIVEN),
+    'parity bit over the stop': (WRONG_PARITY, "    wrong = form.parity != NONE and [stop[0]] != parity_bits(form, bits)\n"),
+    'parity bit read where there is none': (
+        "    parity = [next(pairs)] if form.parity != NONE else []\n    return start, data, parity, next(pairs)\n",
+        "    parity = [next(pairs)]\n    return start, data, parity, next(pairs, (MARK, MARK))\n",
+        WRONG_PARITY, WRONG_PARITY.replace("(form,", "(form._replace(parity=form.parity or EVEN),")),
+    'parity bit taken for the stop': (
+        "    parity = [next(pairs)] if form.parity != NONE else []\n", "    parity = []\n",
+        WRONG_PARITY, "    wrong = False\n"),
+
+    # The break mark.
+    **{f'break mark {name}': (GIVEN, GIVEN.replace("int(SPACE in stop)", wrong)) for name, wrong in (
+        ('never', "0"), ('always', "1"), ('by the first half alone', "int(stop[0] == SPACE)"),
+        ('by the second half alone', "int(stop[1] == SPACE)"), ('by both halves alone', "int(stop == (SPACE, SPACE))"),
+        ('by halves that differ alone', "int(stop[0] != stop[1])"), ('by every stop cell', f"int(0 in {STOP_CELLS})"),
+        ('by the third stop cell as well', f"int(0 in {STOP_CELLS}[:3])"),
+        ('by the fourth stop cell as well', f"int(0 in {STOP_CELLS}[:2] or 0 in {STOP_CELLS}[3:])"),
+        ('by the last stop cell', "int(cells[length(form) - 1] == 0)"),
+        ('by later stops alone', f"int(0 in ({STOP_CELLS}[2:] or stop))"),
+        ('by all stop cells together', f"int(not any({STOP_CELLS}))"),
+        ('by the cell past the frame', "int(SPACE in stop or 0 in cells[length(form):length(form) + 1])"),
+        ('of no ones alone', "int(SPACE in stop and 1 not in bits)"), ('of ones alone', "int(SPACE in stop and 1 in bits)"),
+        ('lost where the parity is wrong', "int(SPACE in stop and not wrong)"),
+        ('where the parity is wrong', "int(SPACE in stop or wrong)"), ('turned round', "int(SPACE not in stop)"),
+        ('by bytes other than 1', f"int(max({STOP_CELLS}[:2]) != 1 or SPACE in stop)"),
+        *((f'not with {stops} stop cells', f"int(SPACE in stop and form.stops != {stops})") for stops in (2, 3, 4)),
+        *((f'not at {bits} bits', f"int(SPACE in stop and form.bits != {bits})") for bits in (5, 6, 7, 8)),
+        *((f'not of {parity}', f"int(SPACE in stop and form.parity != {parity})") for parity in ('NONE', 'ODD', 'EVEN')))},
+    'break mark refused with 20': (GIVEN, f"    if SPACE in stop:\n        {REFUSED_20}" + GIVEN),
+    'break with a wrong parity bit refused with 20': (GIVEN, f"    if SPACE in stop and wrong:\n        {REFUSED_20}" + GIVEN),
+    'both marks exchanged': (GIVEN, GIVEN.replace("int(wrong), int(SPACE in stop)", "int(SPACE in stop), int(wrong)")),
+    'both marks for either': (GIVEN, GIVEN.replace("int(wrong), int(SPACE in stop)", "*[int(wrong or SPACE in stop)] * 2")),
+
+    # What is lent, and what stays.
+    'cells read told without later stops': (READS_USED, READS_USED.replace("length(form)", "length(form) - form.stops + 2")),
+    'cells read told without the stops': (READS_USED, READS_USED.replace("length(form)", "length(form) - form.stops")),
+    'list for cells read': (READS_USED, READS_USED.replace("length(form)", "len(self.lent())")),
+    'refused reading tells the cells': (READS_USED, "        return (*reading, length(form))\n"),
+    'refused reading with 20 tells the cells': (
+        READS_USED, READS_USED.replace("if reading.code", "if reading.code == TOO_SHORT")),
+    **{f'reading {name}': (READS_LENT, f"{READS_LENT}        if {when}:\n            {wrong}\n") for name, when, wrong in (
+        ('clears the frame', "reading.code == 0", stored('length(form)', 'length(form)')),
+        ('clears the list', "True", stored('len(cells)', 'len(cells)')),
+        ('writes marks as 1', "True", stored('len(cells)', 'int(cell > 0) for cell in cells')),
+        ('marks the start as taken', "reading.code == 0", "self.cells[self.first] = MARK"),
+        ('that is refused clears the list', "reading.code", stored('len(cells)', 'len(cells)')),
+        ('that is refused sets the first cell', "reading.code and cells", "self.cells[self.first] = SPACE"),
+        ('mends a break', "reading.brk", stored('length(form)', '[*cells[:length(form) - form.stops], *[1] * form.stops]')),
+        ('sets later stops', "reading.code == 0",
+         stored('length(form)', '[*cells[:length(form) - form.stops + 2], *[1] * (form.stops - 2)]')),
+        ('takes the list on', "reading.code == 0", "self.lend(self.first + length(form), self.count)"))},
+    **{f'reads {name}': (READS_LENT, READS_LENT.replace("self.lent()", wrong)) for name, wrong in (
+        ('from the first cell of the line on', "self.cells[:len(self.lent())]"), ('past the list', "self.cells[self.first:]"),
+        ('one cell on', "self.cells[self.first + 1:self.first + 1 + self.count]"))},
+}
+
+# Wrong forms of control bits: a piece of the rule and what stands in its place.
+LENGTH_BITS = "{(0, 0): 5, (0, 1): 6, (1, 0): 7, (1, 1): 8}[bit[10], bit[11]]"
+PARITY_BITS, STOP_BIT = "NONE if bit[8] == 1 else {0: ODD, 1: EVEN}[bit[12]]", "{0: ONE, 1: TWO}[bit[9]]"
+BY_NUMBER = "dict(enumerate(control, 8))"
+WRONG_FORMS = {
+    'bit 8 turned round': (PARITY_BITS, PARITY_BITS.replace("bit[8] == 1", "bit[8] == 0")),
+    'bit 8 not looked at': (PARITY_BITS, "{0: ODD, 1: EVEN}[bit[12]]"),
+    'no parity ever': (PARITY_BITS, "NONE"),
+    'bit 12 turned round': (PARITY_BITS, PARITY_BITS.replace("0: ODD, 1: EVEN", "0: EVEN, 1: ODD")),
+    'bit 12 not looked at, odd': (PARITY_BITS, "NONE if bit[8] == 1 else ODD"),
+    'bit 12 not looked at, even': (PARITY_BITS, "NONE if bit[8] == 1 else EVEN"),
+    'even parity wherever bit 12 is 1': (PARITY_BITS, "EVEN if bit[12] else (NONE if bit[8] else ODD)"),
+    'bits 8 and 12 exchanged': (PARITY_BITS, "NONE if bit[12] == 1 else {0: ODD, 1: EVEN}[bit[8]]"),
+    'parity mode by bit 13': (PARITY_BITS, PARITY_BITS.replace("bit[12]", "bit[13]")),
+    'parity mode by bit 11': (PARITY_BITS, PARITY_BITS.replace("bit[12]", "bit[11]")),
+    'bits 8 and 9 exchanged': (PARITY_BITS, PARITY_BITS.replace("bit[8]", "bit[9]"),
+                               STOP_BIT, STOP_BIT.replace("bit[9]", "bit[8]")),
+    'bit 9 turned round': (STOP_BIT, "{0: TWO, 1: ONE}[bit[9]]"),
+    'bit 9 not looked at, one stop': (STOP_BIT, "ONE"), 'bit 9 not looked at, two stops': (STOP_BIT, "TWO"),
+    'bit 9 is one and a half stops': (STOP_BIT, STOP_BIT.replace("TWO", "ONE_AND_A_HALF")),
+    'bit 9 is one and a half stops at 5 bits': (STOP_BIT, "{0: ONE, 1: ONE_AND_A_HALF if bits == 5 else TWO}[bit[9]]"),
+    'one and a half stops at 5 bits': (STOP_BIT, "ONE_AND_A_HALF if bits == 5 else " + STOP_BIT),
+    'two stops at 110 baud': (STOP_BIT, "TWO if not bit[13] + bit[14] + bit[15] else " + STOP_BIT),
+    'two stops where there is no parity': (STOP_BIT, "TWO if parity == NONE else " + STOP_BIT),
+    'stops by bit 10': (STOP_BIT, STOP_BIT.replace("bit[9]", "bit[10]")),
+    'bits 10 and 11 exchanged': (LENGTH_BITS, LENGTH_BITS.replace("[bit[10], bit[11]]", "[bit[11], bit[10]]")),
+    'lengths from 8 to 5': (LENGTH_BITS, "{(0, 0): 8, (0, 1): 7, (1, 0): 6, (1, 1): 5}[bit[10], bit[11]]"),
+    'length by bits 9 and 10': (LENGTH_BITS, LENGTH_BITS.replace("[bit[10], bit[11]]", "[bit[9], bit[10]]")),
+    'length by bits 11 and 12': (LENGTH_BITS, LENGTH_BITS.replace("[bit[10], bit[11]]", "[bit[11], bit[12]]")),
+    'length with the parity bit': (LENGTH_BITS, f"min({LENGTH_BITS} + 1 - bit[8], 8)"),
+    'length with the parity bit taken out': (LENGTH_BITS, f"max({LENGTH_BITS} - 1 + bit[8], 5)"),
+    'eight bits always': (LENGTH_BITS, "8"),
+    'control bits backwards': (BY_NUMBER, "dict(enumerate(control[::-1], 8))"),
+    'control bits one place up': (BY_NUMBER, "dict(enumerate(control[1:] + control[:1], 8))"),
+    'control bits one place down': (BY_NUMBER, "dict(enumerate(control[-1:] + control[:-1], 8))"),
+    'control bits from bit 12 on': (BY_NUMBER, "dict(enumerate(control[4:] + control[:4], 8))"),
+}
+
+# Wrong arrivals from the wire: a piece of the rule and what stands in its place.
+WITH_MARKS = "reading.byte, reading.parity, reading.brk"
+WRONG_ARRIVALS = {
+    **{f'given {name}': (ARRIVES, ARRIVES.replace(WITH_MARKS, wrong)) for name, wrong in (
+        ('without marks', "reading.byte, 0, 0"), ('without the parity mark', "reading.byte, 0, reading.brk"),
+        ('without the break mark', "reading.byte, reading.parity, 0"),
+        ('with its marks exchanged', "reading.byte, reading.brk, reading.parity"),
+        ('with both marks for either', "reading.byte, *[reading.parity | reading.brk] * 2"),
+        ('without the parity mark where there is a break', "reading.byte, reading.parity & (1 - reading.brk), reading.brk"),
+        ('without the break mark where the parity is wrong', "reading.byte, reading.parity, reading.brk & (1 - reading.parity)"),
+        ('with the parity mark always', "reading.byte, 1, reading.brk"), ('as 0', "0, reading.parity, reading.brk"),
+        ('as 0 with a break', "reading.byte * (1 - reading.brk), reading.parity, reading.brk"),
+        ('as 0 with a wrong parity bit', "reading.byte * (1 - reading.parity), reading.parity, reading.brk"))},
+    **{f'made at {name}': (ARRIVES, ARRIVES.replace("arrival(port,", f"arrival({wrong},")) for name, wrong in (
+        ('port 0', "0"), ('the port mod 128', "port % 128"), ('the port mod 256', "port % 256"),
+        ('the port mod 65536', "port % 65536"),
+        ('the next port', "port + 1"), ('the port mod P', "port % max(mux.record.ports, 1)"),
+        ('the position', "mux.record.pos"), ('the last port where there is none', "min(port, max(mux.record.ports, 1) - 1)"))},
+    **{f'made {name}': (IF_READ, f"        if {wrong}:\n            called") for name, wrong in (
+        ('though the reading is refused', "True"), ('though the list is too short', "reading.code != NO_FRAME"),
+        ('though there is no frame', "reading.code != TOO_SHORT"), ('never', "False"),
+        ('without a wrong parity bit alone', "reading.code == 0 and not reading.parity"),
+        ('without a break alone', "reading.code == 0 and not reading.brk"),
+        ('without both marks alone', "reading.code == 0 and not (reading.parity and reading.brk)"),
+        ('where no character is held', "reading.code == 0 and not mux.record.port[port % 128].held"),
+        ('in a unit that runs', "reading.code == 0 and mux.record.runs"),
+        ('of an EDS-8 alone', "reading.code == 0 and mux.record.kind == 0"),
+        ('at ports below 128 alone', "reading.code == 0 and port < 128"),
+        ('at ports below P alone', "reading.code == 0 and port < mux.record.ports"),
+        ('of a character that is not 0', "reading.code == 0 and reading.byte"))},
+    **{f'and {name}': (ARRIVES, f"{ARRIVES}            {wrong}\n") for name, wrong in (
+        ('made twice', ARRIVES.strip()), ('served at once', "mux.inspect()"),
+        ('its overload mark lost', "called or mux.change(port, overload=0)"),
+        ('the transmitter emptied', "called or mux.change(port, empty=1)"),
+        ('its refusal lost', "called = 0"), ('its refusal 6 lost', "called %= 6"), ('8 given as 6', "called = min(called, 6)"),
+        ('nothing told of a character that is refused', "reading = Reading(0, 0, 0, 0) if called else reading"),
+        ('its refusal told as the reading', "reading, called = (Reading(called, 0, 0, 0) if called else reading), 0"),
+        ('its refusal told as both', "reading = Reading(called, 0, 0, 0) if called else reading"),
+        ('what is read not told', "reading = Reading(0, 0, 0, 0)"))},
+    **{f'frame read by {name}': (ITS_FORM, ITS_FORM.replace("port % mux2.ARRAY", wrong)) for name, wrong in (
+        ('the control bits of port 0', "0"), ('those of the last place', "min(port, 127)"),
+        ('those of the port mod 64', "port % 64"), ('those of the next place', "(port + 1) % 128"),
+        ('those of the port mod P', "port % max(mux.record.ports, 1)"),
+        ('those of the last port', "min(port, max(mux.record.ports, 1) - 1)"),
+        ('those of port 0 where there is none', "port if port < mux.record.ports else 0"),
+        ('those of the place from the last to the first', "127 - port % 128"))},
+    **{f'frame read {name}': (ITS_FORM, ITS_FORM + f"        form = {wrong}\n") for name, wrong in (
+        ('with eight bits', "form._replace(bits=8)"), ('without parity', "form._replace(parity=NONE)"),
+        ('with one stop', "form._replace(stops=ONE)"), ('with two stops', "form._replace(stops=TWO)"),
+        ('with one and a half stops at 5 bits', "form._replace(stops=ONE_AND_A_HALF) if form.bits == 5 else form"),
+        ('with even parity', "form._replace(parity=form.parity and EVEN)"))},
+    'refusal of a reading told as that of the arrival': (
+        ARRIVED, "        return (*reading, called) if reading.code == 0 else (0, 0, 0, 0, reading.code)\n"),
+    'refusal of a reading told as both': (ARRIVED, "        return (*reading, called or reading.code)\n"),
+    **{f'refused reading {name}': (ARRIVED, f"        if reading.code:\n            {wrong}\n" + ARRIVED) for name, wrong in (
+        ('asks for the arrival', "called = mux.table(False, port, None)"),
+        ('drops the character that is held', "mux.change(port % 128, held=0, byte=0, parity=0, brk=0, overload=0)"),
+        ('marks the character that is held', "mux.change(port % 128, brk=mux.record.port[port % 128].held)"),
+        ('stops the unit', "mux.record.runs = 0"), ('sets the overload mark', "mux.change(port % 128, overload=1)"))},
+    'refused reading with 20 marks a break': (
+        ARRIVED, "        if reading.code == NO_FRAME:\n            mux.arrival(port, 0, 0, 1)\n" + ARRIVED),
+    'arrival asked for before the reading': (
+        ITS_FORM, "        asked = mux.table(False, port, None)\n        if asked:\n            return 0, 0, 0, 0, asked\n"
+        + ITS_FORM),
+    'cells cleared once read': (
+        ARRIVED, f"        if reading.code == 0:\n            {stored('length(form)', 'length(form)')}{ARRIVED}"),
+    'cells cleared once refused': (ARRIVED, "        if reading.code:\n            self.cells[:] = bytes(CELLS)\n" + ARRIVED),
+    'list taken on': (ARRIVED, f"        self.first += 0 if reading.code else length(form)\n{ARRIVED}"),
+}
+
+# Of frames on the wire (02, K3).
+FRAME_MUTANTS = [
+    *[(f'frame: {name}', LONG, LONG.replace("form.stops", wrong)) for name, wrong in WRONG_LENGTHS.items()],
+    *[(f'written parity: {name}', BAUDS, BAUDS.replace("parity_bits(form, data)", wrong))
+      for name, wrong in WRONG_PARITIES.items()],
+    *[(f'read parity: {name}', WRONG_PARITY, WRONG_PARITY.replace("parity_bits(form, bits)", wrong.replace("data", "bits")))
+      for name, wrong in WRONG_PARITIES.items()],
+    ('parity: odd and even exchanged', "{ODD: 1, EVEN: 0}", "{ODD: 0, EVEN: 1}"),
+    ('parity: a count of the zeros', "data.count(1) + bit", "data.count(0) + bit"),
+    *[(f'written: {name}', *pieces) for name, pieces in WRONG_FRAMES.items()],
+    *[(f'read: {name}', *pieces) for name, pieces in WRONG_LINE_READINGS.items()],
+    *[(f'refusals {numbers} for 18, 19, 20', NUMBERS, NUMBERS.replace("18, 19, 20", numbers)) for numbers in (
+        "19, 19, 20", "18, 18, 20", "19, 18, 20", "18, 20, 19", "18, 19, 19", "18, 20, 20", "20, 19, 18", "10, 19, 20",
+        "18, 19, 21", "18, 7, 20")],
+]
+
+# Of the control bits' forms, and of characters that come from the wire (02, K3).
+ARRIVAL_MUTANTS = [
+    *[(f'form: {name}', *pieces) for name, pieces in WRONG_FORMS.items()],
+    *[(f'form of order 34: {name}', "form_of(mux2.BYTE_BITS[control])\n", f"form_of(mux2.BYTE_BITS[{wrong}])\n")
+      for name, wrong in (
+          ('the low seven bits', "control % 128"), ('the high four bits', "control // 16 * 16"), ('bit 12 set', "control | 8"))],
+    *[(f'from the wire: {name}', *pieces) for name, pieces in WRONG_ARRIVALS.items()],
+]
+
+
+def changed(right, texts):
+    """A program's text with each piece in `texts` replaced by the one that follows it, as a module."""
+    source = right
     for old, new in zip(texts[::2], texts[1::2]):
-        if SOURCE.count(old) != 1:
-            raise ValueError(f'found {SOURCE.count(old)} times, not once: {old!r}')
+        if right.count(old) != 1:
+            raise ValueError(f'found {right.count(old)} times, not once: {old!r}')
         source = source.replace(old, new)
     module = types.ModuleType('mutant')
     exec(compile(source, 'mutant', 'exec'), module.__dict__)
-    return module.Mux2
+    return module
 
 
-def first_difference(mutant, author):
-    """The number of the first call that the mutant answers otherwise, or None."""
-    driver = drive.Driver(mutant)
+def program(*texts):
+    """The second program, changed."""
+    return changed(SOURCE, texts).Mux2
+
+
+def wire(*texts):
+    """The second program's line, changed. It counts no branches, as what it does need not be any of them."""
+    mutant = changed(WIRE_SOURCE, texts).Wire
+    for name in vars(mutant).copy():
+        if name.startswith('note_'):
+            setattr(mutant, name, lambda *_: None)
+    return mutant
+
+
+def first_difference(mutant, author, part='program'):
+    """The number of the first call that the mutant, in this part's place, answers otherwise, or None."""
+    driver = drive.Driver(**{part: mutant})
     printed = iter(author.printed)
     call = 0
     for order in author.orders:
@@ -1261,17 +1714,20 @@ def first_difference(mutant, author):
 
 def main():
     began = time.time()
-    groups = {'sets': SET_MUTANTS, 'stack': STACK_MUTANTS, 'bases': BASE_MUTANTS, 'others': MUTANTS}
+    groups = {'sets': SET_MUTANTS, 'stack': STACK_MUTANTS, 'bases': BASE_MUTANTS, 'frames': FRAME_MUTANTS,
+              'arrivals': ARRIVAL_MUTANTS, 'others': MUTANTS}
+    parts = dict.fromkeys(('frames', 'arrivals'), 'wire')
     group_of = {name: group for group, wrong in groups.items() for name, *_ in wrong}
     count = sum(map(len, groups.values()))
     if len(group_of) < count:
         sys.exit('two mutants have one name')
-    alive = {name: program(*texts) for wrong in groups.values() for name, *texts in wrong}
+    alive = {name: (wire if group in parts else program)(*texts) for group, wrong in groups.items() for name, *texts in wrong}
     for number, (author, _) in enumerate(sessions.fixed_set(), 1):
-        group = {'sets': 'sets', sessions.OF_THE_BASES: 'bases', **dict.fromkeys(sessions.OF_THE_STACK, 'stack')}.get(
+        group = {'sets': 'sets', sessions.OF_THE_BASES: 'bases', **dict.fromkeys(sessions.OF_THE_STACK, 'stack'),
+                 **dict.fromkeys(sessions.OF_FRAMES, 'frames'), **dict.fromkeys(sessions.OF_ARRIVALS, 'arrivals')}.get(
             author.kind, 'others')
         for name in [name for name in alive if group_of[name] == group]:
-            call = first_difference(alive[name], author)
+            call = first_difference(alive[name], author, parts.get(group, 'program'))
             if call is not None:
                 del alive[name]
                 if '--quiet' not in sys.argv:

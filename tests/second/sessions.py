@@ -9,6 +9,7 @@ from random import Random
 
 import drive
 import mux2
+import wire2
 
 SEED, SESSIONS = 1974, 220          # the fixed set of the gate
 DIGEST_EVERY = 256                  # printed lines between two whole digests
@@ -90,7 +91,7 @@ class Author:
         self.driver = drive.Driver()
         self.mux = self.driver.mux
         self.orders, self.printed = [], []
-        self.calls = self.serving = 0
+        self.calls = self.framed = self.serving = 0     # all calls; those on the cells; those that serve a port
 
     # Chance.
 
@@ -120,16 +121,21 @@ class Author:
     def unit(self):
         return self.mux.record
 
+    @property
+    def wire(self):
+        return self.driver.wire
+
     def do(self, *order):
         before = self.mux.services
         line = self.driver.drive(order)
         self.orders.append(order)
         if order[0] in drive.CALLS:
             self.calls += 1
+            self.framed += order[0] not in drive.UNIT_CALLS
             self.serving += self.mux.services > before
         if line is not None:
             self.printed.append(line)
-            if order[0] < drive.DIGEST and len(self.printed) % DIGEST_EVERY == 0:
+            if order[0] not in (drive.DIGEST, drive.END) and len(self.printed) % DIGEST_EVERY == 0:
                 self.do(drive.DIGEST)
 
     def block(self, p):
@@ -546,7 +552,7 @@ class Author:
         while self.calls < calls:
             if not self.unit.runs:
                 self.do(drive.DOC)
-            elif self.serving < 0.53 * self.calls:
+            elif self.serving < 0.53 * (self.calls - self.framed):
                 self.plain_turn()
             else:
                 getattr(self, self.weighted(self.actions))()
@@ -1827,6 +1833,542 @@ def small_stack_session():
     return author, reached
 
 
+# The sessions of the wire (02, K3).
+
+OF_FRAMES, OF_ARRIVALS = ('frames', 'wrong frames', 'noise'), ('characters from the wire', 'wire and unit')     # their kinds
+FORMS = range(len(wire2.FORMS))                         # the numbers of the forms
+CHARACTERS = (0, 255, mux2.GLOTTAL_STOP, 0o125, 0o252, *(2 ** place for place in range(8)))
+MARKS = (2, 255)                                        # bytes that read as marks, beside 1
+PAST_THE_END = 170                                      # put where no cell is
+FILLS = ((2, 1), (3, 2), (256, 3), (1, 4))              # what noise is cut to, and where it starts
+PORTS_PAST = (8, 9, 100, 127, 128, 129, 133, 255, 256, 261, 65541, 2147483653, MANY - 127, MANY)    # no ports of a unit of 8
+
+
+def cells_of(number):
+    """How many cells a frame of this form has."""
+    return wire2.length(wire2.FORMS[number])
+
+
+def lend(author, first, count):
+    """The cells from this place on are lent, by an order where others are."""
+    if (author.wire.first, author.wire.count) != (first, count):
+        author.do(drive.LEND, first, count)
+
+
+def lend_some(author, number, more=0):
+    """Cells somewhere on the line are lent, as many as a frame of this form has and so many more."""
+    count = cells_of(number) + more
+    lend(author, author.below(wire2.CELLS - count + 1), count)
+
+
+def fill_cells(author, m):
+    """All the cells become noise below m."""
+    author.do(drive.FILL_CELLS, 1 + author.below(2000000000), m)
+
+
+def put_cells(author, first, wanted):
+    """The cells from this place on become these, by words of four where others stand."""
+    for at, byte in enumerate(wanted, first):
+        if author.wire.cells[at] != byte:
+            four = [*wanted[at - first:at - first + 4]]
+            beyond = [*author.wire.cells[at + len(four):at + 4], *[PAST_THE_END] * 3]
+            author.do(drive.CELLS, at, int.from_bytes(bytes((four + beyond)[:4]), 'big'))
+
+
+def written(author, number, byte):
+    """A frame is written into the cells lent; the cells it has."""
+    author.do(drive.FRAME, number, byte)
+    return list(author.wire.lent()[:cells_of(number)])
+
+
+# Frames that are right.
+
+def every_room(author, number):
+    """A form's frames into lists of every length up to three cells more than it has, over noise; each list is then read."""
+    fill_cells(author, 256)
+    most = cells_of(number) + 3
+    first = author.below(wire2.CELLS - most + 1)
+    for count in range(most + 1):
+        lend(author, first, count)
+        author.do(drive.FRAME, number, author.below(256))
+        author.do(drive.READ, number)
+
+
+def characters(author, number):
+    """Frames of characters that show each data bit, and of random ones, anywhere on the line, each read back."""
+    fill_cells(author, 256)
+    for byte in (*CHARACTERS, author.below(256), author.below(256), author.below(256)):
+        lend_some(author, number, author.one_of(0, 0, 1, 2, 3))
+        author.do(drive.FRAME, number, byte)
+        author.do(drive.READ, number)
+
+
+def at_the_end(author, number):
+    """Lists that end with the line, and lists that would end past it."""
+    fill_cells(author, 256)
+    n = cells_of(number)
+    for first, count in ((wire2.CELLS - n, n), (wire2.CELLS - n, wire2.CELLS), (wire2.CELLS - n + 1, n), (0, wire2.CELLS),
+                         (wire2.CELLS, n), (wire2.CELLS - 1, wire2.CELLS)):
+        lend(author, first, count)
+        author.do(drive.FRAME, number, author.below(256))
+        author.do(drive.READ, number)
+
+
+def by_every_form(author, number):
+    """A frame of this form is read by every form, as one that is not agreed upon would be."""
+    fill_cells(author, 2)
+    lend_some(author, number, 12)
+    author.do(drive.FRAME, number, author.below(256))
+    for other in FORMS:
+        author.do(drive.READ, other)
+
+
+def sampled(author, number):
+    """A name is sent on an idle line, with no pause, a short one and a longer one after a frame, and is read along the line."""
+    put_cells(author, 0, [1] * wire2.CELLS)
+    places, first = [], 0
+    for letter, code in enumerate(NAME):
+        lend(author, first, cells_of(number))
+        author.do(drive.FRAME, number, code)
+        places.append(first)
+        first += cells_of(number) + letter % 3
+    for first in places:
+        lend(author, first, wire2.CELLS)
+        author.do(drive.READ, number)
+
+
+def frames_session():
+    """The session of frames that are right: each form with many characters, in lists of every length."""
+    author = Author(SEED, 0)
+    author.kind = OF_FRAMES[0]
+    for number in FORMS:                                # the cells are 0, and nothing is lent at first
+        author.do(drive.FRAME, number, 255)
+        author.do(drive.READ, number)
+    for number in FORMS:
+        every_room(author, number)
+    for number in FORMS:
+        characters(author, number)
+        at_the_end(author, number)
+        by_every_form(author, number)
+    for number in FORMS[::5]:
+        sampled(author, number)
+    return ended(author)
+
+
+def ended(author):
+    """The end of a session: its author, and the branches of the unit and of the wire that it reached."""
+    reached = {**author.mux.reached, **author.wire.reached}
+    author.do(drive.END)
+    return author, reached
+
+
+# Frames that are wrong.
+
+def spoiled(author, number, good, changes):
+    """A frame with some cells changed, by their places in it, is read."""
+    put_cells(author, author.wire.first, [changes.get(place, cell) for place, cell in enumerate(good)])
+    author.do(drive.READ, number)
+
+
+def turned(good, *places):
+    """These cells of a frame, each with the other level."""
+    return {place: 1 - good[place] for place in places}
+
+
+def places_of(number):
+    """The places of a form's parts in its frame: start, each data bit, the parity bit or none, the first stop, later stops."""
+    form = wire2.FORMS[number]
+    pairs = [(place, place + 1) for place in range(0, cells_of(number) - form.stops, 2)]
+    start, data, parity = pairs[0], pairs[1:1 + form.bits], pairs[1 + form.bits:]
+    stops = range(cells_of(number) - form.stops, cells_of(number))
+    return start, data, parity, stops[:2], stops[2:]
+
+
+def every_cell(author, number, good):
+    """Each cell of a frame by itself becomes a space, a mark, and a mark by other bytes."""
+    for place, cell in enumerate(good):
+        for byte in (0, 1, *MARKS):
+            if byte != cell:
+                spoiled(author, number, good, {place: byte})
+
+
+def wrong_bits(author, number, good):
+    """Both halves of the start, of each data bit and of the parity bit, with the other level, alone and beside a break."""
+    start, data, parity, (stop, half), later = places_of(number)
+    for pair in (start, *data, *parity):
+        spoiled(author, number, good, turned(good, *pair))
+    for pair in (data[0], data[-1], *parity):
+        for places in ((stop,), (half,), (stop, half)):
+            spoiled(author, number, good, turned(good, *pair, *places))
+    for pair in parity:
+        spoiled(author, number, good, turned(good, *pair, *data[0]))       # a parity bit that is right again
+        spoiled(author, number, good, turned(good, *pair, *data[0], *data[1]))
+        spoiled(author, number, good, turned(good, *pair, *later))
+
+
+def wrong_stops(author, number, good):
+    """Either and both halves of the first stop, with later stops as they are and as spaces, and later stops alone."""
+    *_, (stop, half), later = places_of(number)
+    others = sorted({(), tuple(later[:1]), tuple(later[1:]), tuple(later)})
+    for places in ((stop,), (half,), (stop, half)):
+        for also in others:
+            spoiled(author, number, good, turned(good, *places, *also))
+    for also in others[1:]:
+        spoiled(author, number, good, turned(good, *also))
+
+
+def wrong_starts(author, number, good):
+    """Marks in the start, by 1 and by another byte, in a frame that is right otherwise and beside other faults."""
+    start, data, parity, (stop, half), _ = places_of(number)
+    for mark in (1, 200):
+        for places in (start[:1], start[1:], start):
+            spoiled(author, number, good, dict.fromkeys(places, mark))
+    for other in (turned(good, data[0][0]), turned(good, data[-1][1]), turned(good, half),
+                  *(turned(good, *pair) for pair in parity)):
+        spoiled(author, number, good, {start[0]: 1, **other})
+        spoiled(author, number, good, {start[1]: 200, **other})
+
+
+def wrong_halves(author, number, good):
+    """Halves that differ in more bits than one, and beside a wrong parity bit or a break."""
+    start, data, parity, (stop, half), _ = places_of(number)
+    for changes in (turned(good, data[0][0], data[1][0]), turned(good, data[0][1], data[-1][0]),
+                    turned(good, data[2][0], stop), turned(good, data[-1][1], half),
+                    *(turned(good, *pair, data[1][0]) for pair in parity),
+                    *(turned(good, pair[0], data[1][1]) for pair in parity),
+                    *(turned(good, pair[1], stop, half) for pair in parity)):
+        spoiled(author, number, good, changes)
+
+
+def other_marks(author, number, good):
+    """Every mark by another byte, by the same one and by many, in a frame that is right and in one with each mark."""
+    start, data, parity, (stop, half), later = places_of(number)
+    right = {place: author.one_of(1, 2, 77, 128, 254, 255, 1 + author.below(255)) for place, cell in enumerate(good) if cell}
+    for byte in (2, 128, 255):
+        spoiled(author, number, good, dict.fromkeys(right, byte))
+    spoiled(author, number, good, right)
+    spoiled(author, number, good, {**right, stop: 0})
+    spoiled(author, number, good, {**right, half: 0, **dict.fromkeys(later, 0)})
+    for pair in parity:
+        bit = [0, 0] if good[pair[0]] else [2, 254]
+        spoiled(author, number, good, {**right, **dict(zip(pair, bit))})
+        spoiled(author, number, good, {**right, **dict(zip(pair, bit)), stop: 0})
+
+
+def short_lists(author, number, good):
+    """Lists of a frame's first cells, too few by one to three: of a right frame and of wrong ones."""
+    start, data, parity, (stop, half), later = places_of(number)
+    first, n = author.wire.first, cells_of(number)
+    frames = [{}, {start[0]: 1}, {start[1]: 200}, turned(good, data[0][0]), turned(good, stop),
+              *(turned(good, *pair) for pair in parity), *(turned(good, pair[1]) for pair in parity)]
+    for changes in frames:
+        put_cells(author, first, [changes.get(place, cell) for place, cell in enumerate(good)])
+        for missing in (1, 2, 3):
+            lend(author, first, n - missing)
+            author.do(drive.READ, number)
+        lend(author, first, n)
+    put_cells(author, first, good)
+    for count in (0, 1, 2, 3, len(good) // 2):
+        lend(author, first, count)
+        author.do(drive.READ, number)
+
+
+def wrong_frames_session():
+    """The session of frames that are wrong: every cell of every form, and what may be wrong in more cells than one."""
+    author = Author(SEED, 1)
+    author.kind = OF_FRAMES[1]
+    for number in FORMS:
+        fill_cells(author, 256)
+        for turn, byte in enumerate((CHARACTERS[number % len(CHARACTERS)], author.below(256))):
+            lend_some(author, number, turn)
+            good = written(author, number, byte)
+            wrong_bits(author, number, good)
+            wrong_stops(author, number, good)
+            spoiled(author, number, good, {})           # right again
+        every_cell(author, number, good)
+        wrong_starts(author, number, good)
+        wrong_halves(author, number, good)
+        other_marks(author, number, good)
+        short_lists(author, number, good)
+    return ended(author)
+
+
+# Noise.
+
+def everywhere(author, turn):
+    """The line is read at every place, by every form in turn, in a list of a frame's length and in a longer one in turn."""
+    for first in range(wire2.CELLS):
+        number = (first + turn) % len(FORMS)
+        lend(author, first, (cells_of(number), wire2.CELLS)[first // len(FORMS) % 2])
+        author.do(drive.READ, number)
+
+
+def sounded_line(author):
+    """A line whose levels change at every second cell alone, so that most of what is read there is some frame."""
+    def byte(level):
+        return level and author.one_of(1, 1, 2, 255)
+
+    levels = [author.below(2) for _ in range(wire2.CELLS // 2)]
+    put_cells(author, 0, [byte(level) for level in levels for _ in range(2)])
+
+
+def noise_session():
+    """The session of noise: lines of random bytes, and lines of random levels for two cells each, read at every place."""
+    author = Author(SEED, 2)
+    author.kind = OF_FRAMES[2]
+    for turn, (m, x) in enumerate(FILLS):
+        author.do(drive.FILL_CELLS, x, m)
+        everywhere(author, 7 * turn)
+    for turn in range(2):
+        sounded_line(author)
+        everywhere(author, turn)
+    return ended(author)
+
+
+# Characters that come from the wire to a unit.
+
+def form_at(author, port):
+    """The number of the form that the control bits ask for by which a frame for this port is read."""
+    return wire2.FORMS.index(wire2.form_of(author.unit.port[port % mux2.ARRAY].control))
+
+
+def with_control(author, port, control):
+    """A port's control bits are poked; cells for a frame of their form are lent."""
+    author.do(drive.POKE_PORT, port, 6, control)
+    lend_some(author, form_at(author, port))
+
+
+def marked_changes(number, good, parity, brk):
+    """What is to be changed in a right frame so that it is read with these marks, if the form has a parity bit."""
+    *_, pairs, stop, _ = places_of(number)
+    places = [place for pair in pairs if parity for place in pair] + [stop[brk - 1]] * (brk > 0)
+    return turned(good, *places)
+
+
+def from_the_wire(author, port, byte, parity=0, brk=0):
+    """A frame for a port, with a wrong parity bit, or a break in either half of the stop, or both; it arrives at the port."""
+    number = form_at(author, port)
+    good = written(author, number, byte)
+    changes = marked_changes(number, good, parity, brk)
+    put_cells(author, author.wire.first, [changes.get(place, cell) for place, cell in enumerate(good)])
+    author.do(drive.FROM_WIRE, port)
+
+
+def every_control(author, controls):
+    """A port with each of these control bytes: a right frame arrives and is served; then one with marks, some of them twice."""
+    for control in controls:
+        with_control(author, 0, control)
+        from_the_wire(author, 0, author.below(256))
+        author.write(author.block(0), 0)
+        author.inspect()
+        from_the_wire(author, 0, author.below(256), parity=control // 2 % 2, brk=control % 3)
+        if control % 5 == 0:
+            author.do(drive.FROM_WIRE, 0)
+        author.inspect()                                # INDONE is set by now
+    author.do(drive.DIAS)
+
+
+def refused_readings(author, port):
+    """Lists that are too short for a port's frames, and frames that are none: the unit stays as it is, whatever it holds."""
+    number, first = form_at(author, port), author.wire.first
+    n = cells_of(number)
+    start, data, parity, *_ = places_of(number)
+    good = written(author, number, author.below(256))
+    for count in (n - 1, n - 2, 1, 0):
+        lend(author, first, count)
+        author.do(drive.FROM_WIRE, port)
+    lend(author, first, n)
+    for changes in ({start[0]: 1}, {start[1]: 200}, turned(good, data[0][1]), *(turned(good, pair[0]) for pair in parity)):
+        put_cells(author, first, [changes.get(place, cell) for place, cell in enumerate(good)])
+        author.do(drive.FROM_WIRE, port)
+    put_cells(author, first, good)
+    author.do(drive.READ, number)                       # the cells are digested: no reading changed them
+
+
+def no_ports(author):
+    """Ports that a unit of 8 has not: frames by the control bits of the place that each has, and what else may be refused."""
+    for place in (0, 1, 5, 8, 9, 100, 127):
+        author.do(drive.POKE_PORT, place, 6, (place * 37 + 16) % 256)
+    for port in PORTS_PAST:
+        lend_some(author, form_at(author, port))
+        from_the_wire(author, port, 255, parity=port % 2, brk=port // 2 % 2)
+        lend(author, author.wire.first, 7)
+        author.do(drive.FROM_WIRE, port)
+    for port in (0, 1, 5, 7):
+        lend_some(author, form_at(author, port))
+        from_the_wire(author, port, 255)
+
+
+def unsound_unit(author):
+    """Arrivals from the wire at a record that is unsound: 6 after a frame that is read, and the reading's number before it."""
+    for port in (0, 7, 8, 128, MANY):
+        lend_some(author, form_at(author, port))
+        from_the_wire(author, port, author.below(256), brk=port % 2)
+        put_cells(author, author.wire.first, [1])
+        author.do(drive.FROM_WIRE, port)
+        lend(author, author.wire.first, 3)
+        author.do(drive.FROM_WIRE, port)
+
+
+def held_and_stopped(author):
+    """Frames for ports that hold a character already, of a unit that runs and of one that is stopped; then all are served."""
+    for runs in (drive.DOC, drive.DOB):
+        author.do(runs)
+        for p in range(author.unit.ports):
+            with_control(author, p, author.below(256))
+            for _ in range(1 + p % 3):
+                from_the_wire(author, p, author.below(256), parity=author.below(2), brk=author.below(3))
+            refused_readings(author, p)
+        author.do(drive.DOC)
+        for p in range(author.unit.ports):
+            author.write(author.block(author.unit.pos), 0)
+            author.inspect()
+
+
+def typed_on_the_wire(author, icw):
+    """A name comes over the wire into a buffer, letter by letter; the host takes each report and goes on."""
+    set_buffer(author, (0, 4, 6), icw, 2000, 2000 + len(NAME))
+    for code in NAME:
+        if author.done(0, 0):
+            author.write(author.block(0), icw)
+        from_the_wire(author, 0, code)
+        send(author)
+    author.do(drive.DIAS)
+
+
+def from_wire_session():
+    """The session of characters that come from the wire, to units of both kinds; at first the unit is the record of zeros."""
+    author = Author(SEED, 3)
+    author.kind = OF_ARRIVALS[0]
+    unsound_unit(author)
+    for control in range(256):
+        author.do(drive.FORM, control)
+    for kind, step in ((mux2.EDS_8, 1), (mux2.MIGHTY_MUX, 3)):
+        author.give_kind(kind)
+        one_port(author, 256)
+        every_control(author, range(0, 256, step))
+        for icw in RECEIVING:
+            for control in (0o60, 0o50, 0o340):         # eight bits and odd parity; seven and even; seven, none and two stops
+                with_control(author, 0, control)
+                typed_on_the_wire(author, icw)
+        empty_unit(author, 8, 256, 8)
+        held_and_stopped(author)
+        no_ports(author)
+        author.do(drive.POKE, 10, 41)
+        unsound_unit(author)
+        author.do(drive.POKE, 10, 40)
+        lend_some(author, form_at(author, 0))
+        from_the_wire(author, 0, 65)
+        running(author, 128, 0, 0o60, 8)
+        for p in (0, 1, 63, 64, 126, 127):
+            with_control(author, p, author.below(256))
+            from_the_wire(author, p, author.below(256))
+        for port in (128, 191, 255):
+            lend_some(author, form_at(author, port))
+            from_the_wire(author, port, author.below(256))
+    return ended(author)
+
+
+class Wired(Author):
+    """Writes a session as the others are, but most characters come over the wire, and frames of every form between them."""
+
+    def __init__(self, seed, number):
+        super().__init__(seed, number)
+        self.kind = OF_ARRIVALS[1]
+        self.actions['on_the_wire'] = 12
+
+    def arrival(self, p):
+        """A character comes over the wire, most often by a right frame."""
+        if self.chance(0.1):
+            super().arrival(p)
+            return
+        number = form_at(self, p)
+        lend_some(self, number, self.one_of(0, 0, 0, 1, 5))
+        good = written(self, number, self.byte())
+        if self.chance(0.35):
+            self.spoil(number, good)
+        self.do(drive.FROM_WIRE, p)
+
+    def spoil(self, number, good):
+        """A wrong parity bit, a break, both, later stops that are spaces, other marks, any cells, or a cell too few."""
+        *_, later = places_of(number)
+        what = self.below(8)
+        changes = {}
+        if what < 4:
+            changes = marked_changes(number, good, what % 2, self.one_of(0, 1, 2) if what > 1 else 0)
+        elif what == 4:
+            changes = dict.fromkeys(later, 0)
+        elif what == 5:
+            changes = {place: 1 + self.below(255) for place, cell in enumerate(good) if cell}
+        elif what == 6:
+            changes = {self.below(len(good)): self.below(3), self.below(len(good)): self.below(256)}
+        else:
+            lend(self, self.wire.first, len(good) - 1 - self.below(4))
+        put_cells(self, self.wire.first, [changes.get(place, cell) for place, cell in enumerate(good)])
+
+    def on_the_wire(self):
+        """Frames of any form between the unit's calls: written, read back, read by another form, read from noise."""
+        number = self.below(len(FORMS))
+        if self.chance(0.2):
+            fill_cells(self, self.one_of(1, 2, 2, 3, 256))
+        if self.chance(0.2):
+            lend(self, self.below(wire2.CELLS + 1), self.one_of(self.below(30), wire2.CELLS))
+        else:
+            lend_some(self, number, self.one_of(-1, 0, 1, 8))
+        if self.chance(0.6):
+            self.do(drive.FRAME, number, self.byte())
+        self.do(drive.READ, self.one_of(number, number, self.below(len(FORMS))))
+        if self.chance(0.3):
+            self.do(drive.FORM, self.below(256))
+
+
+FIRST_WIRED, WIRED, WIRED_CALLS = 504, 5, 500           # the first number is a multiple of the kinds of random sessions
+
+
+def wired_session(seed, number):
+    """One session of a unit and a wire."""
+    author = Wired(seed, FIRST_WIRED + number)
+    wire = author.wire                                  # the end of the session puts a new one in its place
+    reached = author.session(WIRED_CALLS)
+    return author, {**reached, **wire.reached}
+
+
+def small_wire_session():
+    """A short session of the wire, for small.py: frames written, spoiled and read, a list that is too short, and characters that
+    come from the wire to a unit of either kind and to ports that it has not."""
+    author = Author(SEED, 4)
+    author.kind = 'small wire'
+    author.do(drive.FROM_WIRE, 0)
+    fill_cells(author, 256)
+    for number, byte in ((10, mux2.GLOTTAL_STOP), (12, 255), (31, 0o252)):
+        lend_some(author, number, 2)
+        good = written(author, number, byte)
+        start, data, parity, (stop, half), later = places_of(number)
+        for places in ((), (stop,), (half,), later, start, start[1:], data[0][1:], *parity, *(pair[1:] for pair in parity)):
+            spoiled(author, number, good, turned(good, *places))
+        lend(author, author.wire.first, cells_of(number) - 1)
+        author.do(drive.FRAME, number, byte)
+        author.do(drive.READ, number)
+    for control in (0, 0o50, 0o370):
+        author.do(drive.FORM, control)
+    for kind in (mux2.EDS_8, mux2.MIGHTY_MUX):
+        author.give_kind(kind)
+        one_port(author, 256)
+        with_control(author, 0, 0o50)
+        author.write(author.block(0), RECEIVING[2])
+        from_the_wire(author, 0, 65)
+        author.inspect()
+        from_the_wire(author, 0, 66, parity=1, brk=2)
+        put_cells(author, author.wire.first, [1])
+        author.do(drive.FROM_WIRE, 0)
+        from_the_wire(author, 0, 67, parity=1)
+        author.inspect()
+    for port in (128, MANY):
+        lend_some(author, form_at(author, port))
+        from_the_wire(author, port, 255)
+    return ended(author)
+
+
 def fixed_set(seed=SEED, sessions=SESSIONS):
     yield speeds_session()
     yield short_session()
@@ -1837,5 +2379,11 @@ def fixed_set(seed=SEED, sessions=SESSIONS):
     yield stack_session()
     yield kinds_session()
     yield mighty_bases_session()
+    yield frames_session()
+    yield wrong_frames_session()
+    yield noise_session()
+    yield from_wire_session()
+    for number in range(WIRED):
+        yield wired_session(seed, number)
     for number in range(sessions):
         yield write_session(seed, number)

@@ -1,8 +1,8 @@
-"""Checks the second program by document 01's settled examples, K1, K2, K4 to K7 and K10 of document 02 and the manuals.
+"""Checks the second program by document 01's settled examples, K1 to K7 and K10 of document 02 and the manuals.
 
 It also checks that the digests are those of FORMAT.md, that a written session
 can be read and driven again, that compare.py finds a changed line and that
-settings2.py finds a wrong answer. Exit status 0 only where every check passes.
+settings2.py and picture2.py find a wrong answer. Exit status 0 only where every check passes.
 """
 
 import bisect
@@ -16,10 +16,13 @@ import compare
 import drive
 import mutants
 import mux2
+import picture2
 import sessions
 import settings2
 import small
+import wire2
 from mux2 import IDLE, INPUT, NOTHING, OUTPUT, Answer, Mux2
+from wire2 import Wire
 
 
 def unit(b=8, ports=8, base=64, control=0o60, **given):
@@ -439,16 +442,16 @@ def test_appendix_b_with_data_coming_in():
     assert changed == {**wanted, 0o20000: 0o40030}      # the byte at 40001: a right half
 
 
-def failing(check, program):
-    """Whether a check fails with another program in the second one's place."""
-    global Mux2
-    right, Mux2 = Mux2, program
+def failing(check, program, name='Mux2'):
+    """Whether a check fails with another program in the second one's place, or in that of its line."""
+    right = globals()[name]
+    globals()[name] = program
     try:
         check()
     except AssertionError:
         return True
     finally:
-        Mux2 = right
+        globals()[name] = right
     return False
 
 
@@ -476,6 +479,555 @@ def test_random_sessions_tell_the_old_rule():
         author, reached = sessions.write_session(sessions.SEED, number)
         assert all(mutants.first_difference(program, author) is not None for program in wrong)
         assert reached['input 6: not last'] and reached['output 01: not last']
+
+
+# Document 02, K3.
+
+NONE, ODD, EVEN = range(3)
+EVERY_FORM = [(bits, parity, stops) for stops in (2, 3, 4) for parity in (NONE, ODD, EVEN) for bits in (5, 6, 7, 8)]
+SOME_BYTES = (0, 255, 124, 85, 170, 1, 2, 4, 8, 16, 32, 64, 128, 251, 96, 7)
+
+
+def form_number(bits, parity, stops):
+    """The number of a form (FORMAT.md); its stops are given in cells."""
+    return bits - 5 + 4 * parity + 12 * (stops - 2)
+
+
+def frame_length(bits, parity, stops):
+    return 2 + 2 * bits + 2 * (parity > 0) + stops
+
+
+def line_of(cells, first=0, count=None):
+    """A line that begins with these cells, which are lent unless told otherwise; the cells after them are 170."""
+    wire = Wire()
+    wire.cells[:] = bytes(cells) + b'\252' * (512 - len(cells))
+    wire.lend(first, len(cells) - first if count is None else count)
+    return wire
+
+
+def read_cells(form, cells):
+    """What a list of cells is read as by a form: refusal number, character, both marks, cells."""
+    return line_of(cells).read(form_number(*form))
+
+
+def frame_of(form, byte):
+    """The cells of a frame, as they are written."""
+    wire = line_of([170] * frame_length(*form))
+    assert wire.write(form_number(*form), byte) == (0, frame_length(*form))
+    return list(wire.lent())
+
+
+def every_frame():
+    """Every character in every form, and the cells of its frame."""
+    for byte in range(256):
+        for form in EVERY_FORM:
+            yield form, byte, frame_of(form, byte)
+
+
+def some_frames():
+    """Characters that show each bit in every form."""
+    for byte in SOME_BYTES:
+        for form in EVERY_FORM:
+            yield form, byte, frame_of(form, byte)
+
+
+def with_cells(cells, *places, level=None):
+    """Cells with those at these places turned, or made this level."""
+    return [(1 - cell if level is None else level) if place in places else cell for place, cell in enumerate(cells)]
+
+
+def bit_places(form):
+    """The places of both halves of each data bit, and those of the parity bit, if there is one."""
+    pairs = [(2 + 2 * bit, 3 + 2 * bit) for bit in range(form[0] + (form[1] > 0))]
+    return pairs[:form[0]], pairs[form[0]:]
+
+
+def test_worked_frame():
+    # 7 bits, even parity, one stop: octal 174 has the bits 1111100, five ones, so the parity bit is a sixth.
+    cells = [0, 0, 0, 0, 0, 0, 1, 1, 1, 1, 1, 1, 1, 1, 1, 1, 1, 1, 1, 1]
+    wire = line_of([9] * 23)
+    assert wire.write(10, 0o174) == (0, 20) and list(wire.cells) == cells + [9] * 3 + [170] * 489
+    assert wire.read(10) == (0, 0o174, 0, 0, 20)
+    odd = line_of(cells[:16] + [0, 0, 1, 1])
+    assert odd.read(6) == (0, 0o174, 0, 0, 20) and odd.read(10) == (0, 0o174, 1, 0, 20)
+
+
+def test_worked_frames():
+    for form, byte, bits in (                           # a level for each bit, and the stop cells
+            ((5, NONE, 3), 31, '0 11111 -'), ((5, NONE, 2), 0o340, '0 00000 -'), ((8, ODD, 4), 0, '0 00000000 1'),
+            ((8, EVEN, 2), 255, '0 11111111 0'), ((8, ODD, 2), 255, '0 11111111 1'), ((6, ODD, 2), 0o101, '0 100000 0'),
+            ((5, EVEN, 4), 0b11100110, '0 01100 0'), ((7, EVEN, 2), 0b11000000, '0 0000001 1'),
+            ((8, NONE, 4), 0o252, '0 01010101 -'), ((8, EVEN, 3), 128, '0 00000001 1'), ((5, ODD, 3), 0b1000001, '0 10000 0')):
+        levels = bits.replace(' ', '').replace('-', '')
+        cells = [int(level) for level in levels for _ in range(2)] + [1] * form[2]
+        assert frame_of(form, byte) == cells
+        assert read_cells(form, cells) == (0, byte % 2 ** form[0], 0, 0, len(cells))
+
+
+def test_forms_by_their_numbers():
+    assert [tuple(form) for form in wire2.FORMS] == EVERY_FORM and len(EVERY_FORM) == 36
+    for number, form in enumerate(EVERY_FORM):
+        assert form_number(*form) == number and wire2.length(wire2.FORMS[number]) == frame_length(*form)
+    assert frame_length(5, NONE, 2) == 14 and frame_length(8, EVEN, 4) == 24 and frame_length(5, NONE, 3) == 15
+
+
+def test_a_frame_reads_back():
+    for form, byte, cells in every_frame():
+        n = frame_length(*form)
+        assert len(cells) == n and set(cells) <= {0, 1} and cells[:2] == [0, 0] and cells[-form[2]:] == [1] * form[2]
+        assert read_cells(form, cells) == (0, byte % 2 ** form[0], 0, 0, n)
+
+
+def test_ones_of_data_and_parity_bit():
+    for form, byte, cells in every_frame():
+        data, parity = bit_places(form)
+        assert [cells[first] for first, _ in data] == [int(digit) for digit in format(byte, '08b')[::-1][:form[0]]]
+        ones = bin(byte % 2 ** form[0]).count('1') + sum(cells[first] for first, _ in parity)
+        assert form[1] == NONE or ones % 2 == {ODD: 1, EVEN: 0}[form[1]]
+        assert all(cells[first] == cells[second] for first, second in data + parity)
+
+
+def test_bits_above_the_length_do_not_count():
+    for form in EVERY_FORM:
+        for byte in range(256):
+            assert frame_of(form, byte) == frame_of(form, byte % 2 ** form[0])
+
+
+def test_a_wrong_parity_bit_alone():
+    for form, byte, cells in every_frame():
+        for pair in bit_places(form)[1]:
+            assert read_cells(form, with_cells(cells, *pair)) == (0, byte % 2 ** form[0], 1, 0, len(cells))
+
+
+def test_one_wrong_data_bit():
+    for form, byte, cells in some_frames():
+        for bit, pair in enumerate(bit_places(form)[0]):
+            got = read_cells(form, with_cells(cells, *pair))
+            assert got == (0, byte % 2 ** form[0] ^ 1 << bit, int(form[1] != NONE), 0, len(cells))
+
+
+def test_a_space_in_the_first_stop():
+    for form, byte, cells in some_frames():
+        stop = len(cells) - form[2]
+        for places in ((stop,), (stop + 1,), (stop, stop + 1)):
+            assert read_cells(form, with_cells(cells, *places)) == (0, byte % 2 ** form[0], 0, 1, len(cells))
+            for pair in bit_places(form)[1]:            # both marks
+                assert read_cells(form, with_cells(cells, *places, *pair)) == (0, byte % 2 ** form[0], 1, 1, len(cells))
+
+
+def test_later_stops_are_not_looked_at():
+    for form, _, cells in some_frames():
+        later = len(cells) - form[2] + 2
+        for wrong in (cells, with_cells(cells, later - 1), with_cells(cells, 3), with_cells(cells, 0)):
+            got = read_cells(form, wrong)
+            for byte in (0, 1, 2, 255):
+                for place in range(later, len(cells)):
+                    assert read_cells(form, [*wrong[:place], byte, *wrong[place + 1:]]) == got
+                assert read_cells(form, wrong[:later] + [byte] * (len(cells) - later)) == got
+                assert read_cells(form, wrong + [byte] * 3) == got
+
+
+def test_halves_that_differ():
+    for form, _, cells in some_frames():
+        data, parity = bit_places(form)
+        for pair in data + parity:
+            for place in pair:
+                assert read_cells(form, with_cells(cells, place)) == (20, 0, 0, 0, 0)
+                assert read_cells(form, with_cells(cells, place, len(cells) - form[2])) == (20, 0, 0, 0, 0)
+
+
+def test_a_start_that_is_not_two_spaces():
+    for form, _, cells in some_frames():
+        for mark in (1, 2, 200, 255):
+            for places in ((0,), (1,), (0, 1)):
+                assert read_cells(form, with_cells(cells, *places, level=mark)) == (20, 0, 0, 0, 0)
+
+
+def test_every_byte_but_0_is_a_mark():
+    random = Random(3).random
+    for form, byte, cells in some_frames():
+        right = (0, byte % 2 ** form[0], 0, 0, len(cells))
+        assert read_cells(form, [cell * (1 + int(random() * 255)) for cell in cells]) == right
+    cells = frame_of((8, EVEN, 2), 0b10101011)
+    for mark in range(1, 256):
+        for place, cell in enumerate(cells):
+            got = read_cells((8, EVEN, 2), [*cells[:place], mark, *cells[place + 1:]])
+            assert got == ((0, 0b10101011, 0, 0, 22) if cell else (20, 0, 0, 0, 0))
+
+
+def test_too_short_a_list_to_write():
+    for form in EVERY_FORM:
+        n = frame_length(*form)
+        for first in (0, 1, 100, 512 - n - 3):
+            for count in range(n + 4):
+                wire = line_of([(7 * place + 3) % 256 for place in range(512)], first, count)
+                before = bytes(wire.cells)
+                if count < n:
+                    assert wire.write(form_number(*form), 77) == (18, 0) and wire.cells == before
+                else:
+                    assert wire.write(form_number(*form), 77) == (0, n)
+                    assert wire.cells == before[:first] + bytes(frame_of(form, 77)) + before[first + n:]
+        assert line_of([0] * 512, 513 - n, 512).write(form_number(*form), 0) == (18, 0)     # none past the end of the line
+        assert line_of([0] * 512, 512 - n, 512).write(form_number(*form), 0) == (0, n)
+
+
+def test_too_short_a_list_to_read():
+    for form, _, cells in some_frames():
+        for wrong in (cells, with_cells(cells, 0), with_cells(cells, 3), with_cells(cells, len(cells) - form[2]), [1] * 24):
+            for count in range(len(cells) - 1, -1, -1):
+                assert read_cells(form, wrong[:count]) == (19, 0, 0, 0, 0)
+        assert read_cells(form, cells)[0] == 0 and read_cells(form, with_cells(cells, 0))[0] == 20
+
+
+def test_the_refusals_are_18_19_and_20():
+    assert (wire2.NO_ROOM, wire2.TOO_SHORT, wire2.NO_FRAME) == (18, 19, 20)
+    wire = line_of([1] * 19)
+    assert wire.write(10, 0) == (18, 0) and wire.read(10)[0] == 19 and line_of([1] * 20).read(10)[0] == 20
+
+
+def by_pattern(form, cells):
+    """What a list of cells is read as, by a pattern over its levels."""
+    bits, parity, stops = form
+    levels = ''.join('m' if cell else 's' for cell in cells)
+    pattern = f'ss((?:ss|mm){{{bits}}})' + ('(ss|mm)' if parity else '()') + '(..)' + '.' * (stops - 2)
+    if len(cells) < frame_length(*form):
+        return 19, 0, 0, 0, 0
+    frame = re.match(pattern, levels)
+    if frame is None:
+        return 20, 0, 0, 0, 0
+    data, sent, stop = frame.groups()
+    byte = int(data[::-2].replace('m', '1').replace('s', '0'), 2)
+    ones = (data + sent)[::2].count('m')
+    wrong = parity != NONE and ones % 2 != {ODD: 1, EVEN: 0}[parity]
+    return 0, byte, int(wrong), int('s' in stop), frame_length(*form)
+
+
+def lists_of_cells(count, seed=5):
+    """Lists of cells: noise of few and of many bytes, and right and spoiled frames of any form."""
+    random = Random(seed).random
+    for _ in range(count):
+        length, sort = int(random() * 30), int(random() * 4)
+        if sort == 0:
+            yield [int(random() * 2) for _ in range(length)]
+        elif sort == 1:
+            yield [int(random() * 256) * int(random() * 2) for _ in range(length)]
+        else:
+            levels = [0, *(int(random() * 2) for _ in range(12))]
+            cells = [level for level in levels for _ in range(2)]
+            for _ in range(int(random() * sort)):
+                cells[int(random() * len(cells))] = int(random() * 3)
+            yield cells[:max(length, 14)]
+
+
+def test_every_list_is_read_as_by_a_pattern():
+    met = {}
+    for cells in lists_of_cells(1500):
+        for form in EVERY_FORM:
+            got = read_cells(form, cells)
+            assert got == by_pattern(form, cells)
+            met[got[0], got[2], got[3]] = met.get((got[0], got[2], got[3]), 0) + 1
+    assert set(met) == {(0, 0, 0), (0, 1, 0), (0, 0, 1), (0, 1, 1), (19, 0, 0), (20, 0, 0)} and min(met.values()) > 300
+
+
+def test_lists_alike_up_to_the_first_stop_read_alike():
+    random = Random(6).random
+    for cells in lists_of_cells(500, seed=7):
+        for form in EVERY_FORM:
+            n, stop = frame_length(*form), frame_length(*form) - form[2] + 2
+            if len(cells) >= n:
+                other = [*cells[:stop], *(int(random() * 3) for _ in range(n - stop + int(random() * 4)))]
+                levels = [cell and 1 + int(random() * 255) for cell in cells]
+                assert read_cells(form, other) == read_cells(form, cells) == read_cells(form, levels)
+
+
+def test_reading_changes_no_cell():
+    for form, _, cells in some_frames():
+        for wrong in (cells, with_cells(cells, 0), with_cells(cells, 3), with_cells(cells, len(cells) - form[2]), cells[:-1],
+                      with_cells(cells, len(cells) - 1), [77 * cell for cell in cells]):
+            for first in (0, 3):
+                wire = line_of([5] * first + wrong, first)
+                before = bytes(wire.cells)
+                wire.read(form_number(*form))
+                assert wire.cells == before and (wire.first, wire.count) == (first, len(wrong))
+
+
+def test_a_frame_stands_where_the_list_begins():
+    for form in EVERY_FORM:
+        number, n = form_number(*form), frame_length(*form)
+        wire = line_of([0] * 3 + frame_of(form, 21) + frame_of(form, 10) + [0] * 5)
+        for first, count, got in ((3, n, (0, 21, 0, 0, n)), (3 + n, n, (0, 10, 0, 0, n)), (3 + n, 512, (0, 10, 0, 0, n)),
+                                  (3, n - 1, (19, 0, 0, 0, 0)), (512 - n + 1, n, (19, 0, 0, 0, 0))):
+            wire.lend(first, count)
+            assert wire.read(number) == got
+
+
+def test_forms_of_control_bits():
+    lengths, mux = {'00': 5, '01': 6, '10': 7, '11': 8}, unit()
+    before = state(mux)
+    for control in range(256):
+        ocw = format(0o50000 + control, '016b')         # indexed by the manual's bit numbers (001, 4.2)
+        parity = NONE if ocw[8] == '1' else {'0': ODD, '1': EVEN}[ocw[12]]
+        form = lengths[ocw[10:12]], parity, {'0': 2, '1': 4}[ocw[9]]
+        wire = Wire()
+        assert wire.form(control) == form_number(*form) and not any(wire.cells)
+    assert state(mux) == before
+    assert Wire().form(0o360) == form_number(8, NONE, 4)    # section 6's port control word
+    assert Wire().form(0) == form_number(5, ODD, 2) and Wire().form(0o50) == form_number(7, EVEN, 2)
+
+
+def test_every_form_has_a_read_frame_that_arrives():
+    """A character that comes from the wire arrives as the same one does by itself, with the same marks."""
+    for kind, base in ((0, 64), (1, 256)):
+        for control in range(256):
+            form, byte = EVERY_FORM[Wire().form(control)], control * 7 % 256
+            cells = frame_of(form, byte)
+            stop = len(cells) - form[2]
+            for brk in (0, 1):
+                for parity in (0, 1) if form[1] else (0,):
+                    pair = bit_places(form)[1][0] if parity else ()
+                    wire = line_of(with_cells(cells, *pair, *[stop + control % 2] * brk))
+                    one, other = unit(base=base, control=control, kind=kind), unit(base=base, control=control, kind=kind)
+                    line = bytes(wire.cells)
+                    for mux in (one, other):
+                        mux.change(3, empty=0)
+                    for stopped in (False, True):       # the second one is marked: it replaces the first
+                        if stopped:
+                            one.dob(), other.dob()
+                        assert wire.arrive(one, 3) == (0, byte % 2 ** form[0], parity, brk, 0)
+                        assert other.arrival(3, byte, parity, brk) == 0
+                        assert state(one) == state(other) and wire.cells == line and wire.first == 0
+                    assert one.record.port[3].overload == 1 and one.record.port[3].byte == byte % 2 ** form[0]
+
+
+def test_a_refused_reading_is_no_arrival():
+    for control, form in ((0o50, (7, EVEN, 2)), (0o110, (5, EVEN, 4))):
+        cells = frame_of(form, 65)
+        parity = bit_places(form)[1][0][0]
+        for wrong, code in ((cells[:-1], 19), (cells[:-2], 19), ([], 19), ([1] * (len(cells) - 1), 19), ([1] * 30, 20),
+                            (with_cells(cells, 1), 20), (with_cells(cells, 3), 20), (with_cells(cells, parity), 20)):
+            for held in (0, 1):
+                mux = unit(control=control)
+                mux.change(100, control=mux2.BYTE_BITS[control])
+                if held:
+                    mux.arrival(0, 66, 1, 0)
+                before = state(mux)
+                for port in (0, 100, 128, 4294967268):  # the last two are by the places 0 and 100
+                    wire = line_of(wrong)
+                    line = bytes(wire.cells)
+                    assert wire.arrive(mux, port) == (code, 0, 0, 0, 0)
+                    assert state(mux) == before and wire.cells == line and wire.first == 0
+    unsound = Mux2()
+    assert line_of([0] * 13).arrive(unsound, 0) == (19, 0, 0, 0, 0) and line_of([1] * 24).arrive(unsound, 0) == (20, 0, 0, 0, 0)
+
+
+def test_a_refused_arrival_after_a_reading():
+    mux = unit(control=0o60)
+    mux.change(5, control=mux2.BYTE_BITS[0o50])
+    mux.change(100, control=mux2.BYTE_BITS[0o320])
+    before = state(mux)
+    for port, form in ((8, (5, ODD, 2)), (127, (5, ODD, 2)), (100, (6, NONE, 4)), (128, (8, ODD, 2)), (133, (7, EVEN, 2)),
+                       (228, (6, NONE, 4)), (4294967295, (5, ODD, 2)), (4294967295 - 122, (7, EVEN, 2)), (65541, (7, EVEN, 2))):
+        cells = frame_of(form, 0o52)
+        assert line_of(cells).arrive(mux, port) == (0, 0o52 % 2 ** form[0], 0, 0, 8) and state(mux) == before
+        broken = with_cells(cells, len(cells) - form[2])
+        assert line_of(broken).arrive(mux, port) == (0, 0o52 % 2 ** form[0], 0, 1, 8) and state(mux) == before
+    for mux in (Mux2(), mighty(fill=41)):               # the record of zeros; a stack with too many entries
+        before = state(mux)
+        form = EVERY_FORM[Wire().form(mux2.BYTE_OF[mux.record.port[0].control])]
+        for port in (0, 128, 4294967168):
+            assert line_of(frame_of(form, 9)).arrive(mux, port) == (0, 9, 0, 0, 6) and state(mux) == before
+
+
+def test_a_name_comes_over_the_wire():
+    mux = unit(ports=1, control=0o50, codes=DICTIONARY)
+    block(mux, icw=0o50000, ibp=2000, lib=2006)
+    raised = []
+    for code in b'ma|ohi':
+        assert line_of(frame_of((7, EVEN, 2), code)).arrive(mux, 0) == (0, code, 0, 0, 0)
+        raised.append(mux.inspect()[1].raised)
+    assert raised == [0, 0, 0, 0, 0, 1] and bytes(mux.memory.halves[2001:2007]) == bytes(code + 128 for code in b'ma|ohi')
+    block(mux, icw=0o40000, ibp=2000, lib=2006)
+    broken = with_cells(frame_of((7, EVEN, 2), 65), 18, 16, 17)
+    assert line_of(broken).arrive(mux, 0) == (0, 65, 1, 1, 0)
+    assert mux.inspect()[1].raised == 1 and block(mux)[0] == 0o140000 + 0o6000 + 65     # break before parity
+
+
+def test_orders_of_the_wire():
+    driver = drive.Driver()
+
+    def told(*order):
+        line = driver.drive(order)
+        return line and [int(word) for word in line.split()]
+
+    cells = [0] * 512
+    assert told(drive.FRAME, 0, 1) == [32, 18, 0, drive.digest(cells)]
+    assert told(drive.READ, 0) == [33, 19, 0, 0, 0, 0, drive.digest(cells)]
+    for place, word in ((0, 0x01020304), (510, 0xfffefdfc), (2, 255)):
+        assert told(drive.CELLS, place, word) is None
+    cells[:6], cells[510:] = [1, 2, 0, 0, 0, 255], [255, 254]
+    assert told(drive.LEND, 6, 20) is None and told(drive.FRAME, 10, 124)[:3] == [32, 0, 20]
+    cells[6:26] = [0] * 6 + [1] * 14
+    assert list(driver.wire.cells) == cells and told(drive.READ, 10) == [33, 0, 124, 0, 0, 20, drive.digest(cells)]
+    told(drive.CELLS, 22, 0x00000001)
+    cells[22:26] = [0, 0, 0, 1]
+    assert told(drive.READ, 10) == [33, 0, 124, 1, 1, 20, drive.digest(cells)]
+    told(drive.LEND, 6, 19)
+    assert told(drive.READ, 10) == [33, 19, 0, 0, 0, 0, drive.digest(cells)]
+    told(drive.LEND, 500, 512)                          # twelve cells, up to the end
+    assert len(driver.wire.lent()) == 12 and told(drive.FRAME, 0, 0)[:3] == [32, 18, 0]
+    told(drive.LEND, 512, 512)
+    assert driver.wire.lent() == b''
+    assert told(drive.FORM, 0o50) == [34, 10] and told(drive.FORM, 255) == [34, 27]
+    zeros = drive.digest([0] * 1331)
+    told(drive.LEND, 6, 20)
+    assert told(drive.FROM_WIRE, 0) == [35, 0, 28, 1, 0, 6, zeros]      # by five bits and odd parity, of the record of zeros
+    told(drive.SETUP, 8, 1, 64, 0)
+    told(drive.POKE_PORT, 0, 6, 0o50)
+    line = told(drive.FROM_WIRE, 0)
+    assert line[:6] == [35, 0, 124, 1, 1, 0] and line[6] == driver.record() == told(drive.DIA)[3]
+    assert driver.mux.record.port[0][:5] == (1, 124, 1, 1, 0)
+    told(drive.LEND, 6, 19)
+    assert told(drive.FROM_WIRE, 0) == [35, 19, 0, 0, 0, 0, line[6]] and told(drive.FROM_WIRE, 1) == [35, 0, 28, 1, 0, 8, line[6]]
+    told(drive.END)
+    assert driver.wire.cells == bytes(512) and (driver.wire.first, driver.wire.count) == (0, 0)
+
+
+def test_filled_cells():
+    for m in (1, 2, 3, 255, 256):
+        driver, x = drive.Driver(), 99
+        driver.drive((drive.FILL_CELLS, x, m))
+        for cell in driver.wire.cells:
+            x = x * 48271 % 2147483647
+            assert cell == x // 16 % m
+        assert len(driver.wire.cells) == 512
+
+
+@lru_cache(maxsize=None)
+def sessions_of_the_wire():
+    return [sessions.frames_session(), sessions.wrong_frames_session(), sessions.noise_session(), sessions.from_wire_session(),
+            *(sessions.wired_session(sessions.SEED, number) for number in range(sessions.WIRED))]
+
+
+def test_sessions_of_the_wire():
+    written = sessions_of_the_wire()
+    kinds = [*sessions.OF_FRAMES, sessions.OF_ARRIVALS[0], *[sessions.OF_ARRIVALS[1]] * sessions.WIRED]
+    assert [author.kind for author, _ in written] == kinds
+    assert sum(len(author.orders) for author, _ in written) < 41000
+    assert [branch for branch in wire2.BRANCHES if not any(reached[branch] for _, reached in written)] == []
+    assert not any(author.calls != author.framed for author, _ in written[:3])
+    frames, rooms, wrote, read_by, offsets, lent = written[0][0], {}, {}, set(), set(), (0, 0)
+    for op, *rest in frames.orders:
+        if op == drive.LEND:
+            lent = rest
+            offsets.add(rest[0])
+        elif op == drive.FRAME:
+            rooms.setdefault(rest[0], set()).add(min(lent[1], 512 - lent[0]))
+            wrote.setdefault(rest[0], set()).add(rest[1])
+            last = rest[0]
+        elif op == drive.READ:
+            read_by.add((last, rest[0]))
+    for number, form in enumerate(EVERY_FORM):
+        assert rooms[number] >= set(range(frame_length(*form) + 4))
+        assert wrote[number] >= {0, 255, 124, 85, 170, *(1 << bit for bit in range(8))}
+        assert {(number, other) for other in range(36)} <= read_by
+    assert len(offsets) > 200
+    noise = written[2][0].orders
+    assert {order[1] for order in noise if order[0] == drive.LEND} == set(range(512))
+    assert {order[2] for order in noise if order[0] == drive.FILL_CELLS} >= {2, 3, 256}
+
+
+def test_wrong_frames_session_changes_every_cell():
+    """Each cell of a right frame of each form is once a space, once a mark and once a mark by 2 and by 255, and nothing else."""
+    driver, frames, seen = drive.Driver(), {}, set()
+    for order in sessions_of_the_wire()[1][0].orders:
+        driver.drive(order)
+        if order[0] == drive.FRAME:
+            frames[order[1]] = bytes(driver.wire.lent()[:frame_length(*EVERY_FORM[order[1]])])
+        elif order[0] == drive.READ:
+            right, cells = frames[order[1]], driver.wire.lent()[:len(frames[order[1]])]
+            differ = [place for place in range(min(len(right), len(cells))) if right[place] != cells[place]]
+            if len(cells) == len(right) and len(differ) == 1:
+                seen.add((order[1], differ[0], cells[differ[0]]))
+    for number, form in enumerate(EVERY_FORM):
+        for place in range(frame_length(*form)):
+            assert all((number, place, byte) in seen for byte in (0, 1, 2, 255) if byte != frames[number][place])
+
+
+def test_arrivals_from_the_wire_are_served():
+    author, reached = sessions_of_the_wire()[3]
+    controls, ports, lines = set(), set(), iter(author.printed)
+    marks = {}
+    for op, *rest in author.orders:
+        line = next(lines).split() if op in drive.PRINTED else None
+        if op == drive.POKE_PORT and rest[1] == 6:
+            controls.add(rest[2])
+        elif op == drive.FROM_WIRE:
+            ports.add(rest[0])
+            key = int(line[1]), int(line[5])
+            marks[key] = marks.get(key, 0) + 1
+    assert controls == set(range(256)) and {order[1] for order in author.orders if order[0] == drive.FORM} == controls
+    assert set(marks) == {(0, 0), (0, 6), (0, 8), (19, 0), (20, 0)} and min(marks.values()) > 10
+    assert ports >= {0, 7, 8, 127, 128, 133, 4294967295} and reached['code: break before parity'] and reached['code: overload']
+    for author, reached in sessions_of_the_wire()[4:]:
+        arrivals = sum(order[0] == drive.FROM_WIRE for order in author.orders)
+        assert author.serving > 100 and arrivals > 25 and 2 * author.serving > author.calls - author.framed
+    other = sessions.wired_session(sessions.SEED + 1, 0)[0]
+    assert other.orders != sessions_of_the_wire()[4][0].orders
+
+
+def test_wrong_frames_fail():
+    found = {name: mutants.wire(*texts) for name, *texts in mutants.FRAME_MUTANTS + mutants.ARRIVAL_MUTANTS}
+    told = set()
+    for check, *patterns in (
+            (test_worked_frame, '^written parity: (odd and even|odd always|always a space|a count)', '^parity:'),
+            (test_worked_frames, '^frame:', '^parity:', (
+                '^written: (highest bit first$|all eight|the character cut|bits turned|parity|even parity|odd parity|no|'
+                'a mark for|two starts|spaces for|a space for|one cell a bit|three cells|second halves|first halves|'
+                'marks written|spaces written|one cell too few|later stops|stops not|marks alone|spaces alone|cells used|bits used)')),
+            (test_a_frame_reads_back, '^read parity:', '^read: (highest|character|cells read told)',
+             '^read: parity bit (read|over)', '^read: (parity mark where there is no|break mark (always|turned))'),
+            (test_ones_of_data_and_parity_bit, '^written parity:', '^written: (highest|the top bit|bits turned)'),
+            (test_bits_above_the_length_do_not_count, '^written: (parity over eight|parity over seven|the character cut)'),
+            (test_a_wrong_parity_bit_alone, '^read: parity mark (never|turned|of a|refused)', '^read: parity bit (over|taken)',
+             '^read: (no character where the parity|both marks|break mark where)'),
+            (test_one_wrong_data_bit, '^read parity: (always|wrong of (ODD|EVEN))', '^read: highest', '^read: parity mark never'),
+            (test_a_space_in_the_first_stop, '^read: (parity mark (lost|where there is a)|no character where there|both marks)',
+             '^read: break mark (never|by (the first|the second|both|halves|later|all)|of|lost|turned|not|refused)',
+             '^read: (break with|halves: of the first stop)'),
+            (test_later_stops_are_not_looked_at, '^read: break mark by (every|the third|the fourth|the last|later|the cell)'),
+            (test_halves_that_differ, '^read: halves: (not|of data|of the parity|of the first data|of the last|of one)',
+             '^read: halves: (of the first bit|space and|mark and)', '^read: halves of the parity bit that',
+             '^read: (second halves|marks in either|second half of|refused reading (gives|with 20|tells))'),
+            (test_a_start_that_is_not_two_spaces, '^read: start: (first|second|not|either|halves|refused)'),
+            (test_every_byte_but_0_is_a_mark, '^read: (a byte read|halves compared|break mark by bytes)',
+             '^read: halves of the parity bit compared'),
+            (test_too_short_a_list_to_write, '^written: (18|refused writing|a mark set|a space set|the list|the cell|the rest)',
+             '^written: (written|room|marks alone|spaces alone)'),
+            (test_too_short_a_list_to_read, '^read: (19|20|too short)'),
+            (test_the_refusals_are_18_19_and_20, '^refusals'),
+            (test_every_list_is_read_as_by_a_pattern, '^read: (start|parity mark|19|refused reading|too short|no character)',
+             '^read: halves: of all'),
+            (test_lists_alike_up_to_the_first_stop_read_alike, '^read: break mark by (every|the third|the fourth|the last)'),
+            (test_reading_changes_no_cell, '^read: reading '),
+            (test_a_frame_stands_where_the_list_begins, '^read: (reads|list for)', '^read: reading clears'),
+            (test_forms_of_control_bits, '^form'),
+            (test_every_form_has_a_read_frame_that_arrives, '^from the wire: (given|cells cleared once read|list taken)',
+             '^from the wire: made (at (port 0|the next|the position)|never|without|where|of|in)',
+             '^from the wire: and (made|served|its overload|what is read|the transmitter)',
+             '^from the wire: frame read (with (eight|two|one and|even)|without|by those of the place)'),
+            (test_a_refused_reading_is_no_arrival, '^from the wire: (made though|refusal of a reading|refused reading)',
+             '^from the wire: (arrival asked|cells cleared once refused|frame read with one stop)'),
+            (test_a_refused_arrival_after_a_reading, '^from the wire: made at (the port|the last|ports)',
+             '^from the wire: and (its refusal|8 given|nothing told)', '^from the wire: frame read by (those|the control)',
+             '^from the wire: arrival asked'),
+            (test_a_name_comes_over_the_wire, '^from the wire: given (without marks|as 0$)')):
+        for pattern in patterns:
+            names = [name for name in found if re.search(pattern, name)]
+            assert names, pattern
+            for name in names:
+                assert failing(check, found[name], 'Wire'), (check.__name__, name)
+            told.update(names)
+    assert told == set(found)                           # each of them fails some check
 
 
 # Document 02, K5.
@@ -2040,6 +2592,144 @@ def test_settings_short_texts():
             assert not settings2.check(text, wrong, TOLD, some=True)[0]
 
 
+# The hobbyist's program.
+
+WORKED = ['124 in 7 bits, even parity, 1 stop', 'mark        --------------', 'space ------              ',
+          '      S 0 1 2 3 4 5 6 P T ']
+
+
+def answer(line):
+    return picture2.answer_and_kinds(line)[0]
+
+
+def test_pictures():
+    assert answer('7 2 2 124') == WORKED
+    assert answer('5 0 3 31') == ['31 in 5 bits, no parity, 1.5 stops', 'mark    -------------', 'space --             ',
+                                  '      S 0 1 2 3 4 T T']
+    assert answer('8 1 4 0') == ['0 in 8 bits, odd parity, 2 stops', 'mark                    ------',
+                                 'space ------------------      ', '      S 0 1 2 3 4 5 6 7 P T T ']
+    assert answer('6 0 2 255') == ['255 in 6 bits, no parity, 1 stop', 'mark    --------------', 'space --              ',
+                                   '      S 0 1 2 3 4 5 T ']
+    for form in EVERY_FORM:
+        for byte in SOME_BYTES:
+            title, marks, spaces, below = answer(' '.join(map(str, (*form, byte))))
+            assert title.startswith(f'{byte} in {form[0]} bits, ') and below[:7] == '      S'
+            assert [int(sign == '-') for sign in marks[6:]] == [int(sign == ' ') for sign in spaces[6:]] == frame_of(form, byte)
+            assert (marks[:6], spaces[:6], below[:6]) == ('mark  ', 'space ', '      ') and len(below) == len(marks)
+            signs = 'S' + '01234567'[:form[0]] + 'P' * (form[1] > 0) + 'T' * (form[2] - form[2] // 2)
+            assert below[6::2] == signs and set(below[7::2]) == {' '}
+
+
+def test_picture_lines():
+    for line in ('7 2 2 124', '7 2 2 124 ', '7 2 2 124 9', '7 2 2 124\r', '7\t2\t2\t124', '7,2,2,124', '07 02 002 0124',
+                 '4294967303 2 2 124', '7 4294967298 4294967298 4294967420', '18446744073709551623 2 2 124', '7x2y2z124',
+                 '7 2 2 124-5', '7 2 2 124 x y', '0' * 9999 + '7 2 2 124', '7\x802\xff2\x00124'):
+        assert answer(line) == WORKED
+    for line, same in (('7 2 2 ', '7 2 2 0'), ('7  2 124', '7 0 2 124'), ('8  4 ', '8 0 4 0'), ('7 2 2 -5', '7 2 2 0'),
+                       ('7 2 2 12.4', '7 2 2 12'), ('8 0 4 \t', '8 0 4 0'), ('7 2 2,', '7 2 2 0'), ('7.0 2 2 124', '7 0 2 2')):
+        assert answer(line) == answer(same) and len(answer(line)) == 4
+    for line in ('', ' ', '   ', '7', '7 2', '7 2 2', '124', ' 7 2 2 124', '-7 2 2 124', '7 2  124', '4 2 2 124', '9 2 2 124',
+                 '7 3 2 124', '7 2 1 124', '7 2 5 124', '7 2 2 256', '7 2 2 4294967295', '7 2 2 4294967552', '7 22 124',
+                 '263 2 2 124'):
+        assert answer(line) == [picture2.PLEASE]
+    assert picture2.PLEASE == ('please type data bits (5 to 8), parity (0 none, 1 odd, 2 even), stop cells (2, 3 or 4) and a '
+                               'character (0 to 255)')
+    for text, lines in (('', []), (' ', [' ']), ('\n', ['']), ('\n\n', ['', '']), ('7\n', ['7']), ('7', ['7']),
+                        ('7\n2', ['7', '2']), ('7 2 2 124\r\n5 0 3 31\r', ['7 2 2 124\r', '5 0 3 31\r'])):
+        assert picture2.answered_lines(text) == lines
+
+
+def wrong_numbers():
+    """Wrong readings of a line, as functions from it to its numbers."""
+    def split(pattern, cut):
+        return lambda line: [cut(digits) for digits in re.split(pattern, line)]
+
+    for pattern in ('[^0-9]+', '[ \t]', '[ \r]', ' ', '[^0-9A-Za-z]', r'[^0-9\0]', '[^0-9\x80-\xff]', '[^0-9-]', '[^0-9.]',
+                    '[^0-9,]', r'[^0-9\t]', r'[^0-9\r]'):
+        yield split(pattern, lambda digits: picture2.number(re.sub('[^0-9]', '', digits)))
+    for cut in (lambda digits: int(digits[-4000:] or 0), lambda digits: min(int(digits[-4000:] or 0), 2 ** 32 - 1),
+                lambda digits: int(digits[-10:] or 0) % 2 ** 32, lambda digits: int(digits[:10] or 0) % 2 ** 32,
+                lambda digits: picture2.number(digits) % 256, lambda digits: picture2.number(digits) % 65536,
+                lambda digits: picture2.number(digits) % 2 ** 31, lambda digits: int(digits[-4000:] or 0) % 2 ** 64,
+                lambda digits: int(digits, 8) if re.fullmatch('0[0-7]+', digits) else picture2.number(digits)):
+        yield split('[^0-9]', cut)
+    yield lambda line: [picture2.number(digits) for digits in picture2.words(line.strip())]
+    yield lambda line: [picture2.number(digits) for digits in picture2.words(line.rstrip())]
+    yield lambda line: [picture2.number(digits) for digits in picture2.words(line) if digits]
+    yield lambda line: [picture2.number(digits) for digits in picture2.words(line)][-4:]
+
+
+def test_picture_text_tells_lines():
+    def pictured(numbers):
+        right = len(numbers) > 3 and all(value in allowed for value, allowed in zip(numbers, picture2.RANGES.values()))
+        return tuple(numbers[:4]) if right else None
+
+    lines = picture2.answered_lines(picture2.fixed_text())
+    typed = [picture2.typed(line)[0] for line in lines]
+    right = list(map(pictured, typed))
+    for wrong in wrong_numbers():
+        assert [pictured(wrong(line)) for line in lines] != right
+    for at, allowed in enumerate(picture2.RANGES.values()):     # a range that is one too wide or too narrow
+        seen = {numbers[at] for numbers in typed
+                if len(numbers) == 4 and pictured(numbers[:at] + [allowed[0]] + numbers[at + 1:])}
+        assert seen >= {value for value in (allowed[0] - 1, allowed[0], allowed[-1], allowed[-1] + 1) if value >= 0}
+
+
+def test_picture_check():
+    text = picture2.fixed_text()
+    right = picture2.printed(text).split('\n')[:-1]
+
+    def agrees(lines, end='\n'):
+        return picture2.check(text, '\n'.join(lines) + end)[0]
+
+    def wrong(old, new):
+        at = next(number for number, line in enumerate(right) if line.startswith(old))
+        return right[:at] + new + right[at + 1:]
+
+    assert 550 < text.count('\n') < 650 and agrees(right) and text.endswith('\n5 0 3 31') and right[-4:] == answer('5 0 3 31')
+    below = '      S 0 1 2 3 4 5 6 P T '
+    for lines in (wrong('please', []), wrong('please', [picture2.PLEASE + ' ']), wrong('please', WORKED), wrong('mark', ['mark']),
+                  wrong(WORKED[0], [WORKED[0] + 's']), wrong(WORKED[0], ['0' + WORKED[0]]), wrong(WORKED[1], [WORKED[1] + ' ']),
+                  wrong(WORKED[1], [WORKED[2]]), wrong('space --', [WORKED[2].rstrip()]), wrong(below, [below[:-1]]),
+                  wrong(below, [below.replace('P', 'p')]), wrong(below, [below.replace('T', 'E')]), wrong(below, []),
+                  right[1:], right[:-1], right + [''], right + [picture2.PLEASE], right + WORKED, []):
+        assert lines != right and not agrees(lines)
+    assert not agrees(right, end='') and not agrees(right, end='\n\n')
+
+
+def test_picture_kinds():
+    typed = picture2.answered_lines(picture2.fixed_text())
+    kinds = {line: picture2.answer_and_kinds(line)[1] for line in typed}
+    for missing in picture2.KINDS:
+        text = ''.join(line + '\n' for line in typed if missing not in kinds[line])
+        agrees, said = picture2.check(text, picture2.printed(text))
+        assert not agrees and f'never reached: {missing}' in said
+
+
+def test_picture_short_texts():
+    please, worked, other = picture2.PLEASE + '\n', ''.join(line + '\n' for line in WORKED), picture2.printed('5 0 3 31\n')
+    zero = picture2.printed('7 2 2 0\n')
+    wanted = ('', please, please * 2, please, please, worked, worked, worked + please, worked, worked, please, zero, please,
+              please, worked + other, worked + please, worked + please, please * 2, worked + please, worked)
+    assert len(picture2.SHORT_TEXTS) == len(set(picture2.SHORT_TEXTS)) == len(wanted)
+    assert f'there are: {len(wanted)}, with the numbers 0 to {len(wanted) - 1}\n' in picture2.__doc__
+    for text, lines in zip(picture2.SHORT_TEXTS, wanted):
+        assert picture2.check(text, lines, some=True)[0] and not picture2.check(text, lines)[0]
+        for wrong in {'', please, worked, zero, lines + please, lines + worked, lines[:-1] or '\n'} - {lines}:
+            assert not picture2.check(text, wrong, some=True)[0]
+
+
+def test_small_picture_text():
+    text = picture2.SMALL_TEXT
+    lines = picture2.answered_lines(text)
+    met = {kind for line in lines for kind in picture2.answer_and_kinds(line)[1]}
+    assert text.endswith('\n') and len(lines) < 20
+    assert {kind for kind in picture2.KINDS if kind.startswith(('please', 'parity'))} <= met
+    forms = {form for form in wire2.FORMS if wire2.said_of(form) in met}
+    assert {form.bits for form in forms} == {5, 6, 7, 8} and {form.parity for form in forms} == {NONE, ODD, EVEN}
+    assert {form.stops for form in forms} == {2, 3, 4}
+
+
 # Errors that document 01 has seen.
 
 def test_vertical_bar_is_reported_and_not_stored():
@@ -2209,23 +2899,34 @@ def test_orders_keep_the_format():
     word, number, port_field = 65535, 4294967295, [1, 255, 1, 1, 1, 1, 255, 1, 1]
     field = [number] * 4 + [1, 1, 1, word, 1, 1, number]
     most = {1: (number, number, number, 1), 2: (number, 255, 1, 1), 3: (number,), 4: (number, 1),
-            13: (32760,), 14: (number, 32760), 15: (1,), 16: (39, word), 20: (39999, word), 21: (2147483646,), 22: (40000,),
-            23: (4200, word), 24: (10, number), 25: (127, 8, 255), 26: (255,),
-            27: (127, 1), 28: (2,), 29: (127, 1)}
+            13: (32760,), 14: (number, 32760), 15: (1,), 16: (39, word), 17: (511, number), 18: (2147483646, 256), 19: (512, 512),
+            20: (39999, word), 21: (2147483646,), 22: (40000,), 23: (4200, word), 24: (10, number), 25: (127, 8, 255), 26: (255,),
+            27: (127, 1), 28: (2,), 29: (127, 1), 32: (35, 255), 33: (35,), 34: (255,), 35: (number,)}
     written = [sessions.write_session(7, number)[0] for number in range(len(sessions.KINDS))]
     by_calls = [sessions.codes_session()[0], sessions.short_session()[0], session_of_the_sets()[0],
                 sessions.small_sets_session()[0], sessions.stack_session()[0], sessions.kinds_session()[0]]
     pokes = (drive.POKE, drive.POKE_PORT, drive.POKE_STACK)
     assert not any(order[0] in pokes for author in by_calls for order in author.orders)
     by_pokes = [sessions.bases_session()[0], sessions.poked_session()[0], sessions.small_stack_session()[0],
-                sessions.mighty_bases_session()[0]]
+                sessions.mighty_bases_session()[0], sessions.small_wire_session()[0],
+                *(author for author, _ in sessions_of_the_wire())]
     for author in written + by_calls + by_pokes + [sessions.speeds_session()[0]]:
         for op, *rest in author.orders:
             limits = most.get(op, ())
             assert op in drive.NAMES and len(rest) == len(limits)
             assert all(type(x) is int and 0 <= x <= limit for x, limit in zip(rest, limits))
+            assert op != drive.FILL_CELLS or min(rest) > 0
             assert op != drive.POKE or rest[1] <= field[rest[0]]
             assert op != drive.POKE_PORT or rest[2] <= port_field[rest[1]]
+
+
+def test_whole_digests_are_near():
+    for author in (sessions.write_session(7, 2)[0], sessions.mighty_bases_session()[0],
+                   *(author for author, _ in sessions_of_the_wire())):
+        since = 0
+        for op, *_ in author.orders:
+            since = 0 if op == drive.DIGEST else since + (op in drive.PRINTED)
+            assert since <= 256
 
 
 def test_small_session_has_every_order():
@@ -2234,15 +2935,15 @@ def test_small_session_has_every_order():
 
 
 def test_a_text_can_be_driven_again():
-    author, _ = sessions.write_session(7, 1)
-    driver = drive.Driver()
-    text = [' '.join(map(str, order)) for order in author.orders]
-    again = [driver.drive([int(word) for word in line.split()]) for line in text]
-    assert [line for line in again if line is not None] == author.printed
-    assert compare.first_difference(text, author.printed, author.printed) is None
-    for wrong in (author.printed[:-1], author.printed + ['0'],
-                  author.printed[:50] + ['0'] + author.printed[51:]):
-        assert compare.first_difference(text, author.printed, wrong)
+    for author, _ in (sessions.write_session(7, 1), sessions.small_wire_session(), sessions.wired_session(7, 1)):
+        driver = drive.Driver()
+        text = [' '.join(map(str, order)) for order in author.orders]
+        again = [driver.drive([int(word) for word in line.split()]) for line in text]
+        assert [line for line in again if line is not None] == author.printed
+        assert compare.first_difference(text, author.printed, author.printed) is None
+        for wrong in (author.printed[:-1], author.printed + ['0'],
+                      author.printed[:50] + ['0'] + author.printed[51:]):
+            assert compare.first_difference(text, author.printed, wrong)
 
 
 def main():

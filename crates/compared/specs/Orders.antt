@@ -1,9 +1,10 @@
--- What the numbers of a line of a session's text ask of the unit (tests/second/FORMAT.md, orders 1 to 14).
+-- What the numbers of a line of a session's text ask of the unit (tests/second/FORMAT.md, orders 1 to 14 and 35).
 --   nth                         a number of the line: the opcode is the first, at 0
 --   settingOf                   the setting of order 1, with the kind and the set that stand
 --   signalOf, orderOf, actOf    orders 2 to 4, 5 to 12, and 2 to 13
 --   callOf                      orders 1 to 14 as a call
 --   setOf                       the whole sets of order 28
+--   arrivalCall                 order 35's call, of the frame that was read
 -- Not here: what a call does, `step` in Calls of the crate calls; the other orders, in Session; what is printed, in Said.
 -- Assumes nothing.
 use mathlib.Core.Bool.{Bool, true, false}
@@ -13,9 +14,11 @@ use lib.Dec.{eqb, ltb}
 use lib.ListN.{getD, replicate}
 use Rattle.ground.specs.Choose.{pick}
 use Rattle.words.specs.Special.{set1974}
+use Rattle.framing.specs.declared.read.Frame.{Frame}
 use Rattle.unit.specs.declared.mux.Setting.{Setting}
 use Rattle.lines.specs.declared.signal.Signal.{Signal}
 use Rattle.lines.specs.declared.signal.Signal.the-variants.{Arrival, TransmitterEmpty, DeviceStatus}
+use Rattle.wire.specs.Wire.{arrivalOf}
 use Rattle.processor.specs.declared.orders.Order.{Order}
 use Rattle.processor.specs.declared.orders.Order.the-variants.{Reset, Iopls, Start, Doc, Dob, Dia, Dias, Tick}
 use Rattle.calls.specs.declared.call.Act.{Act}
@@ -65,3 +68,7 @@ callOf s n =
 -- order 28: 0 no code special, 1 every code, 2 the 1974 set
 unfoldable pub setOf : ℕ → List Bool
 setOf which = pick (eqb which 0) (replicate 128 false) (pick (eqb which 1) (replicate 128 true) set1974)
+
+-- order 35 port: the character that was read arrives there, with its two marks
+abbrev pub arrivalCall : ℕ → Frame → Call
+arrivalCall port r = asking (Do (Line port (arrivalOf r)))

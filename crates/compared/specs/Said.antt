@@ -6,6 +6,9 @@
 --   unitSaid                 the line of orders 1 to 14
 --   speedSaid                the line of order 26
 --   wholeSaid                the line of orders 30 and 31
+--   writtenSaid              the line of order 32
+--   frameSaid, readSaid, arrivedSaid   the lines of orders 33 and 35, and what they begin with
+--   formSaid                 the line of order 34
 -- Not here: the bytes of a line, in Printed of the crate driver.
 -- Assumes nothing.
 use mathlib.Core.List.{List, [], _∷_, _++_, foldl}
@@ -14,6 +17,10 @@ use lib.Dec.{eqb}
 use lib.ListN.{take}
 use Rattle.ground.specs.Choose.{pick, bit}
 use Rattle.words.specs.Speed.{speedOf}
+use Rattle.framing.specs.declared.read.Frame.{Frame}
+use Rattle.framing.specs.Write.{Wrote}
+use Rattle.framing.specs.Number.{formNumber}
+use Rattle.framing.specs.Eds8.{formOf}
 use Rattle.unit.specs.declared.mux.Setting.{Setting}
 use Rattle.unit.specs.declared.mux.Mux.{Mux}
 use Rattle.unit.specs.declared.reply.Answer.{Answer}
@@ -63,3 +70,23 @@ speedSaid n = nth n 0 ∷ speedOf (nth n 1 % 256) ∷ []
 -- orders 30 and 31: memory places
 abbrev pub wholeSaid : ℕ → List ℕ → List ℕ → List ℕ
 wholeSaid op m xs = op ∷ digest m ∷ digest xs ∷ []
+
+-- order 32 form byte: code used cells
+abbrev pub writtenSaid : ℕ → Wrote → List ℕ
+writtenSaid op w = op ∷ w .answer .code ∷ w .answer .used ∷ digest (w .cells) ∷ []
+
+-- orders 33 and 35: code byte parity break
+abbrev pub frameSaid : ℕ → Frame → List ℕ
+frameSaid op r = op ∷ r .code ∷ r .c ∷ bit (r .parity) ∷ bit (r .brk) ∷ []
+
+-- order 33 form: the frame, used cells
+abbrev pub readSaid : ℕ → Frame → List ℕ → List ℕ
+readSaid op r cells = frameSaid op r ++ (r .used ∷ digest cells ∷ [])
+
+-- order 34 control: form
+abbrev pub formSaid : ℕ → ℕ → List ℕ
+formSaid op control = op ∷ formNumber (formOf control) ∷ []
+
+-- order 35 port: the frame, called record
+abbrev pub arrivedSaid : ℕ → Frame → ℕ → Mux → List ℕ
+arrivedSaid op r called u = frameSaid op r ++ (called ∷ recordDigest u ∷ [])

@@ -1,4 +1,13 @@
 // The proved code, compared with the second program: reads the text of sessions (tests/second/FORMAT.md) on standard input, makes each call and prints the lines that the text asks for.
+mod frames;
+
+use crate::frames::arrived_line;
+use crate::frames::form_at;
+use crate::frames::form_line;
+use crate::frames::read_lent;
+use crate::frames::read_line;
+use crate::frames::write_lent;
+use crate::frames::written_line;
 use calls::call::Act;
 use calls::call::Call;
 use calls::call::What;
@@ -9,7 +18,9 @@ use driver::digest::of_record;
 use driver::digest::of_window;
 use driver::digest::of_words;
 use driver::host::fill;
+use driver::host::fill_cells;
 use driver::host::lent;
+use driver::host::put_bytes;
 use driver::host::set_all;
 use driver::host::write;
 use driver::poke::kind_of;
@@ -24,6 +35,9 @@ use driver::say::Said;
 use driver::say::and;
 use driver::say::nothing;
 use driver::say::print;
+use framing::form::Form;
+use framing::number::form_numbered;
+use framing::read::Frame;
 use lines::signal::Signal;
 use processor::orders::Order;
 use unit::mux::Mux;
@@ -34,23 +48,25 @@ use unit::reply::Reply;
 use unit::reply::turn_number;
 use unit::setup::no_mux;
 use unit::setup::setup;
+use wire::arrival_of;
 use words::special::set_1974;
 use words::special::with_code;
 use words::speed::speed_of;
 ghost use mathlib.Core.Path.{_≡_};
 ghost use lib.ListN.{take};
 ghost use Rattle.ground.specs.Choose.{Below};
+ghost use Rattle.framing.specs.Number.{formNumbered};
 ghost use Rattle.unit.specs.Reply.{outcome};
 ghost use Rattle.unit.specs.Setup.{setup};
 ghost use Rattle.driver.specs.Digest.{digest};
 ghost use Rattle.driver.specs.Text.{Turned};
 ghost use Rattle.driver.specs.Printed.{nothing};
-ghost use Rattle.compared.specs.Orders.{settingOf, signalOf, orderOf, actOf, callOf, setOf};
-ghost use Rattle.compared.specs.Desk.{kept, newDesk, withUnit, withWords, withPlaces, withCodes, withKind, withLine, closed};
-ghost use Rattle.compared.specs.Said.{saying, answerSaid, toldOf, lookedOf, unitSaid, wholeSaid, speedSaid};
-ghost use Rattle.compared.specs.Session.{calledLent, standing, unitOrder, kindOrder, setOrder, deskOrder, hostOrder, endOrder, order, takeByte, played, shut, Driven};
+ghost use Rattle.compared.specs.Orders.{nth, settingOf, signalOf, orderOf, actOf, callOf, setOf, arrivalCall};
+ghost use Rattle.compared.specs.Desk.{kept, newDesk, withUnit, withWords, withPlaces, withCodes, withKind, withCells, withPart, withLine, closed};
+ghost use Rattle.compared.specs.Said.{saying, answerSaid, toldOf, lookedOf, unitSaid, wholeSaid, speedSaid, readSaid};
+ghost use Rattle.compared.specs.Session.{calledLent, standing, unitOrder, cellsAfter, cellsOrder, kindOrder, setOrder, deskOrder, hostOrder, endOrder, writeOrder, frameIn, arriveOrder, frameOrder, lateOrder, order, takeByte, played, shut, Driven};
 
-// What the driver keeps beside the memory and the list: whether the text goes on, the line being read, the unit, how many words and places are lent, the set and the kind that setups are given.
+// What the driver keeps beside the memory and the list: whether the text goes on, the line being read, the unit, how many words and places are lent, the set and the kind that setups are given, the cells and which of them are lent.
 struct Desk {
     going: bool,
     line: Line,
@@ -59,6 +75,9 @@ struct Desk {
     places: u32,
     codes: [bool; 128],
     kind: u32,
+    cells: [u8; 512],
+    from: u32,
+    lent: u32,
 }
 
 // The desk at the start of a session.
@@ -73,6 +92,9 @@ fn new_desk() -> Desk
         places: 0,
         codes: set_1974(),
         kind: 0,
+        cells: [0; 512],
+        from: 0,
+        lent: 0,
     }
 }
 
@@ -118,6 +140,25 @@ fn with_kind(d: Desk, kind: u32) -> Desk
 {
     let mut e = d;
     e.kind = kind;
+    e
+}
+
+// The desk with other cells.
+fn with_cells(d: Desk, cells: [u8; 512]) -> Desk
+    ensures { λ r. ⌜ r ≡ withCells d cells ⌝ }
+{
+    let mut e = d;
+    e.cells = cells;
+    e
+}
+
+// The desk with so many cells lent, from a place on.
+fn with_part(d: Desk, from: u32, count: u32) -> Desk
+    ensures { λ r. ⌜ r ≡ withPart d from count ⌝ }
+{
+    let mut e = d;
+    e.from = from;
+    e.lent = count;
     e
 }
 
@@ -326,7 +367,34 @@ fn set_of(which: u32) -> [bool; 128]
     set_1974()
 }
 
-// Orders 15 and 16: the kind that setups are given from now on, and a poke of the unit's stack.
+// Orders 17 and 18: what the host does to the cells.
+fn cells_after(cells: [u8; 512], n: [u32; 5]) -> [u8; 512]
+    ensures { λ r. ⌜ r ≡ cellsAfter cells n ⌝ }
+{
+    let mut r = cells;
+    if n[0] == 17 {
+        put_bytes(&mut r, n[1], n[2]);
+        return r;
+    }
+    if n[0] == 18 {
+        fill_cells(&mut r, n[1], n[2]);
+        return r;
+    }
+    r
+}
+
+// Order 19: which cells are lent from now on; else the cells themselves.
+fn cells_order(d: Desk, n: [u32; 5]) -> Desk
+    ensures { λ r. ⌜ r ≡ cellsOrder d n ⌝ }
+{
+    if n[0] == 19 {
+        return with_part(d, n[1], n[2]);
+    }
+    let cells = d.cells;
+    with_cells(d, cells_after(cells, n))
+}
+
+// Orders 15 and 16: the kind that setups are given from now on, and a poke of the unit's stack; else the cells.
 fn kind_order(d: Desk, n: [u32; 5]) -> Desk
     ensures { λ r. ⌜ r ≡ kindOrder d n ⌝ }
 {
@@ -336,10 +404,10 @@ fn kind_order(d: Desk, n: [u32; 5]) -> Desk
     if n[0] == 16 {
         return with_unit(d, poked_place(d.unit, n[1], n[2]));
     }
-    d
+    cells_order(d, n)
 }
 
-// Orders 27 to 29: the set that setups are given from now on, and a poke of the unit's own; else the kind and the stack.
+// Orders 27 to 29: the set that setups are given from now on, and a poke of the unit's own; else the kind, the stack and the cells.
 fn set_order(d: Desk, n: [u32; 5]) -> Desk
     ensures { λ r. ⌜ r ≡ setOrder d n ⌝ }
 {
@@ -356,7 +424,7 @@ fn set_order(d: Desk, n: [u32; 5]) -> Desk
     kind_order(d, n)
 }
 
-// Orders 22, 24 and 25: how many words are lent from now on, and pokes; else the set, the kind and the stack.
+// Orders 22, 24 and 25: how many words are lent from now on, and pokes; else the set, the kind, the stack and the cells.
 fn desk_order(d: Desk, n: [u32; 5]) -> Desk
     ensures { λ r. ⌜ r ≡ deskOrder d n ⌝ }
 {
@@ -372,7 +440,7 @@ fn desk_order(d: Desk, n: [u32; 5]) -> Desk
     set_order(d, n)
 }
 
-// Orders 15, 16, 20 to 25 and 27 to 29: what the host does.
+// Orders 15 to 25 and 27 to 29: what the host does.
 fn host_order(d: Desk, n: [u32; 5], mem: &mut [u16], list: &mut [u16]) -> Desk
     ensures { λ r. ⌜ kept r (now (mem .exit)) (now (list .exit)) ≡ hostOrder (kept d (now (mem .entry)) (now (list .entry))) n ⌝ }
 {
@@ -420,6 +488,87 @@ fn end_order(d: Desk, op: u32, mem: &mut [u16], list: &mut [u16]) -> Desk
     d
 }
 
+// Order 32: a frame is written into the cells lent.
+fn write_order(d: Desk, n: [u32; 5]) -> Desk
+    ensures { λ r. ⌜ r ≡ writeOrder d n ⌝ }
+{
+    let f = form_numbered(n[1]);
+    let mut cells = d.cells;
+    let w = write_lent(f, (n[2] % 256) as u8, &mut cells, d.from, d.lent);
+    print(written_line(n[0], w, cells));
+    with_cells(d, cells)
+}
+
+// A frame read from the cells lent.
+fn frame_in(d: Desk, f: Form) -> Frame
+    ensures { λ r. ⌜ r ≡ frameIn d f ⌝ }
+{
+    let cells = d.cells;
+    read_lent(f, &cells, d.from, d.lent)
+}
+
+// The line of order 33.
+fn frame_line(d: Desk, n: [u32; 5]) -> Said
+    ensures { λ r. ⌜ r ≡ saying nothing (readSaid (nth n 0) (frameIn d (formNumbered (nth n 1))) (d .cells)) ⌝ }
+{
+    let cells = d.cells;
+    read_line(n[0], frame_in(d, form_numbered(n[1])), cells)
+}
+
+// The call that order 35 makes of a frame.
+fn arrival(port: u32, r: Frame) -> Call
+    ensures { λ c. ⌜ c ≡ arrivalCall port r ⌝ }
+{
+    asking(What::Do {
+        act: Act::Line {
+            port,
+            signal: arrival_of(r),
+        },
+    })
+}
+
+// Order 35: a frame is read by the port's control bits and given to an arrival; where it is refused no call is made.
+fn arrive_order(d: Desk, n: [u32; 5], mem: &mut [u16], list: &mut [u16]) -> Desk
+    ensures { λ r. ⌜ kept r (now (mem .exit)) (now (list .exit)) ≡ arriveOrder (kept d (now (mem .entry)) (now (list .entry))) n ⌝ }
+{
+    let r = frame_in(d, form_at(d.unit, n[1]));
+    if r.code != 0 {
+        print(arrived_line(n[0], r, 0, d.unit));
+        return d;
+    }
+    let a = called_lent(d, mem, list, arrival(n[1], r));
+    print(arrived_line(n[0], r, a.reply.code, a.mux));
+    with_unit(d, a.mux)
+}
+
+// Orders 32 to 35: frames; 33 and 34 are printed alone.
+fn frame_order(d: Desk, n: [u32; 5], mem: &mut [u16], list: &mut [u16]) -> Desk
+    ensures { λ r. ⌜ kept r (now (mem .exit)) (now (list .exit)) ≡ frameOrder (kept d (now (mem .entry)) (now (list .entry))) n ⌝ }
+{
+    if n[0] == 32 {
+        return write_order(d, n);
+    }
+    if n[0] == 33 {
+        print(frame_line(d, n));
+        return d;
+    }
+    if n[0] == 34 {
+        print(form_line(n[0], (n[1] % 256) as u8));
+        return d;
+    }
+    arrive_order(d, n, mem, list)
+}
+
+// Orders from 30 on: 32 to 35 frames, else the end.
+fn late_order(d: Desk, n: [u32; 5], mem: &mut [u16], list: &mut [u16]) -> Desk
+    ensures { λ r. ⌜ kept r (now (mem .exit)) (now (list .exit)) ≡ lateOrder (kept d (now (mem .entry)) (now (list .entry))) n ⌝ }
+{
+    if (31 < n[0]) & (n[0] < 36) {
+        return frame_order(d, n, mem, list);
+    }
+    end_order(d, n[0], mem, list)
+}
+
 // The order of the line that has been read.
 fn order(d: Desk, mem: &mut [u16], list: &mut [u16]) -> Desk
     ensures { λ r. ⌜ kept r (now (mem .exit)) (now (list .exit)) ≡ order (kept d (now (mem .entry)) (now (list .entry))) ⌝ }
@@ -436,7 +585,7 @@ fn order(d: Desk, mem: &mut [u16], list: &mut [u16]) -> Desk
     if n[0] < 30 {
         return host_order(d, n, mem, list);
     }
-    end_order(d, n[0], mem, list)
+    late_order(d, n, mem, list)
 }
 
 // One byte of the text; a newline carries the order out.

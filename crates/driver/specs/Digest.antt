@@ -1,6 +1,6 @@
 -- The digests of tests/second/FORMAT.md.
 --   taken                              a digest with one more number
---   digest                             of words or places, in their order
+--   digest                             of words, places or cells, in their order
 --   kindNumber, codeTaken, portTaken, scalars, kindScalars, recordDigest   of the record
 --   windowDigest                       of the window on a control block
 -- Not here: the line that is read, in Text; folds taken step by step, in laws/Folds.
@@ -20,7 +20,7 @@ use Rattle.unit.specs.declared.mux.Mux.{Mux}
 unfoldable pub taken : ℕ → ℕ → ℕ
 taken h x = (h * 65599 + x) % 2147483647
 
--- the digest of words or places, in the order of their addresses
+-- the digest of words, places or cells, in their order
 abbrev pub digest : List ℕ → ℕ
 digest xs = foldl taken 1 xs
 

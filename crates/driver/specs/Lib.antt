@@ -3,7 +3,7 @@
 --   Text      the line that is read, byte by byte
 --   Printed   the line that is printed
 --   Poke      orders 24 and 25
---   Host      the words of order 21
+--   Host      what orders 17, 18 and 21 put into the cells and the memory
 -- What follows from them stands in laws/.
 pub mod Digest
 pub mod Text

@@ -1,4 +1,4 @@
-// The digests of FORMAT.md: of words, of the record, and of the window on a control block.
+// The digests of FORMAT.md: of words, of cells, of the record, and of the window on a control block.
 use interrupt::Irq;
 use interrupt::Kind;
 use unit::mux::Mux;
@@ -56,6 +56,19 @@ pub fn of_words(words: &[u16]) -> u64
     ensures { λ r. ⌜ Below 2147483647 (digest (now (words .entry))) r ⌝ }
 {
     more_words(1, words)
+}
+
+// The digest of cells, in their order.
+pub fn of_cells(cells: &[u8]) -> u64
+    ensures { λ r. ⌜ Below 2147483647 (digest (now (cells .entry))) r ⌝ }
+{
+    let mut d = 1;
+    let mut i = 0;
+    while i < cells.len() {
+        d = taken(d, cells[i] as u64);
+        i += 1;
+    }
+    d
 }
 
 // The digest h with the numbers of a set, one for each code.

@@ -16,11 +16,11 @@ returns-2 c = rw (c .with-unit .ensures, c .before .poked-place .ensures, ne-eqb
 
 returns-3 : tie.Need-returns-3
 unfolding kindOrder pick
-returns-3 c = rw (ne-eqb _ _ (c .before .if1 .left), ne-eqb _ _ (c .if2 .left))
+returns-3 c = rw (c .cells-order .ensures, ne-eqb _ _ (c .before .before .if1 .left), ne-eqb _ _ (c .before .if2 .left))
 
 pub kind-order-spec : {M : Type 1} → statement M
 kind-order-spec =
     tie.close
     (tie.spec
     (λ c. search needs) (λ c. search needs) (λ c κs. search needs) returns (λ c. search needs) (λ c. search needs)
-    (λ c. search needs) (λ c κs. search needs) (λ c κs. search needs) returns-2 returns-3)
+    (λ c. search needs) (λ c κs. search needs) (λ c κs. search needs) returns-2 (λ c κs. search needs) returns-3)

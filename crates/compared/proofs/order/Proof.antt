@@ -20,7 +20,7 @@ returns-3 c = rw (le-ltb _ _ (c .before .before .before .before .before .before 
 
 returns-4 : tie.Need-returns-4
 unfolding orderBy pick
-returns-4 c = rw (le-ltb _ _ (c .before .before .before .before .before .before .before .before .before .if1 .left), ne-eqb _ _ (c .before .before .before .before .before .before .before .before .if2 .left), le-ltb _ _ (c .before .before .before .before .before .before .before .if3 .left)) (c .before .before .before .before .end-order .ensures)
+returns-4 c = rw (le-ltb _ _ (c .before .before .before .before .before .before .before .before .before .if1 .left), ne-eqb _ _ (c .before .before .before .before .before .before .before .before .if2 .left), le-ltb _ _ (c .before .before .before .before .before .before .before .if3 .left)) (c .before .before .before .before .late-order .ensures)
 
 pub order-spec : {M : Type 1} → statement M
 order-spec =
@@ -28,5 +28,5 @@ order-spec =
     (tie.spec
     (λ c. search needs) (λ c κs. search needs) (λ c. search needs) (λ c. search needs) returns (λ c. search needs)
     (λ c κs. search needs) (λ c κs. search needs) returns-2 (λ c. search needs) (λ c κs. search needs)
-    (λ c. search needs) (λ c. search needs) returns-3 (λ c. search needs) (λ c κs. search needs) (λ c. search needs)
+    (λ c. search needs) (λ c. search needs) returns-3 (λ c κs. search needs) (λ c. search needs)
     (λ c. search needs) returns-4)

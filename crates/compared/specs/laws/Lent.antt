@@ -1,18 +1,25 @@
 -- What is lent of a list, and the rest behind it.
 --   take-most, drop-most   no more is lent than there is
 --   lent-back              a call on what is lent
+--   part-most, rest-most   the same from a place on
+--   lent-put               a frame written into what is lent
 -- Not here: what a call on what is lent leaves, in Session.
 -- Assumes nothing.
 use mathlib.Core.Path.{_≡_, ap}
 use mathlib.Core.List.{List, [], _∷_, _++_}
-use Prim.Native.Nat.{ℕ, zero, suc, min}
+use Prim.Native.Nat.{ℕ, zero, suc, _+_, _-_, min}
 use native.Mathlib.Nat.{suc-min-suc, min-zero, zero-min}
-use lib.ListN.{length, take, drop}
+use native.Mathlib.Omega.{arith}
+use lib.ListN.{length, take, drop, length-drop}
+use Rattle.framing.specs.declared.form.Form.{Form}
+use Rattle.framing.specs.declared.write.Written.{Written}
+use Rattle.framing.specs.Write.{Wrote, wrote, writeFrame}
 use Rattle.unit.specs.declared.reply.Replied.{Replied}
 use Rattle.unit.specs.Reply.{world, outcome, Outcome}
 use Rattle.calls.specs.declared.call.Call.{Call}
 use Rattle.calls.specs.Calls.{step}
 use Rattle.compared.specs.Desk.{Kept}
+use Rattle.compared.specs.Frames.{putPart, writeLent}
 use Rattle.compared.specs.Session.{lentBack, calledLent}
 
 pub take-most : (k : ℕ) (xs : List ℕ) → take (min k (length xs)) xs ≡ take k xs
@@ -32,3 +39,19 @@ lent-back k c r m xs i j p q e =
     rw (p, q, drop-most (k .desk .words) (k .memory), drop-most (k .desk .places) (k .list))
     (ap (λ (o : Outcome). lentBack o (drop (k .desk .words) (k .memory)) (drop (k .desk .places) (k .list)))
     (rw (p, q, take-most (k .desk .words) (k .memory), take-most (k .desk .places) (k .list)) at e))
+
+-- k are lent from a place on, as the code counts them: from a up to e
+module _ (xs : List ℕ) (from k a e : ℕ) (p : a ≡ min from (length xs)) (q : e ≡ min (from + k) (length xs)) where
+  count : e - a ≡ min k (length (drop from xs))
+  count = rw length-drop (omega arith)
+
+  pub part-most : take (e - a) (drop a xs) ≡ take k (drop from xs)
+  part-most = rw (count, p, drop-most from xs) (take-most k (drop from xs))
+
+  pub rest-most : drop (e - a) (drop a xs) ≡ drop k (drop from xs)
+  rest-most = rw (count, p, drop-most from xs) (drop-most k (drop from xs))
+
+  pub lent-put : (f : Form) (c : ℕ) (r : Written) (ys : List ℕ) → wrote r ys ≡ writeFrame f c (take (e - a) (drop a xs)) → wrote r (take a xs ++ (ys ++ drop (e - a) (drop a xs))) ≡ writeLent f c xs from k
+  unfolding writeLent
+  lent-put f c r ys g =
+      rw (rest-most, p, take-most from xs) (ap (λ (w : Wrote). putPart xs from k w) (rw part-most at g))
