@@ -15,10 +15,11 @@ ROOT = pathlib.Path(__file__).resolve().parent.parent
 sys.path.insert(0, str(ROOT / 'tests/second'))
 import mux2  # noqa: E402
 import settings2  # noqa: E402
+import wire2  # noqa: E402
 
 ENDINGS = {'.rt', '.antt', '.py', '.sh'}
 # Crates whose definitions speak of the programs and not of the multiplexer.
-PROGRAMS = {'driver', 'compared', 'watch', 'settings'}
+PROGRAMS = {'driver', 'compared', 'watch', 'settings', 'picture'}
 # A setting as it is typed, with an m for a Mighty Mux; an example of a number: what was typed, what to type instead.
 SETTING = r'\d+ \d+ \d+(?: m\b)?'
 EXAMPLE = re.compile(rf' +({SETTING}) +type ({SETTING}): (.*)')
@@ -85,6 +86,7 @@ def sentences_told():
     if [number for number, _ in told] != list(mux2.SETUP_ROWS):
         lost.append(f'docs/CARETAKER.md has the numbers of setup in another order: {told}')
     others = {number for numbers in mux2.REFUSALS.values() for number in numbers} - set(mux2.SETUP_ROWS)
+    others |= {wire2.NO_ROOM, wire2.TOO_SHORT, wire2.NO_FRAME}
     rest = read(ROOT / 'docs/CARETAKER.md').partition('## The other numbers')[2]
     listed = [int(number) for number in re.findall(r'^ {4,5}(\d+) ', rest, re.M)]
     return lost + ([f'docs/CARETAKER.md lists {listed}; the other numbers are {sorted(others)}'] if listed != sorted(others) else [])
