@@ -1,35 +1,21 @@
--- `settings::take` meets its contract. The loop's invariant: what is left of the text, taken from here, gives the line that the whole does.
-use mathlib.Core.Path.{_≡_, refl, sym, _∙_}
-use mathlib.Core.List.{foldl}
-use Prim.Native.Nat.{_≤_, _<_, _-_}
+-- `settings::take` meets its contract. The loop's invariant: so many bytes of the text are taken.
+use Prim.Native.Nat.{_-_}
 use native.Mathlib.Omega.{arith}
-use lib.ListN.{length, drop}
-use Rattle.driver.specs.laws.Folds.{fold-on, fold-end}
-use Rattle.settings.specs.Answer.{taken}
+use lib.ListN.{length}
 use borrow.Author.Needs.{needs}
+use Rattle.driver.specs.laws.Folds.{Folding, folding-none, folding-on, folding-all}
+use Rattle.settings.specs.Answer.{taken}
 use Rattle.settings.proofs.take.Statement.{statement}
 use Rattle.settings.proofs.take.Tie as tie
 
 abbrev Inv-loop : tie.InvT-loop
-Inv-loop text line₀ i₀ line i = (i ≤ length text) × (foldl taken line (drop i text) ≡ foldl taken line₀ text)
+Inv-loop text line₀ i₀ line i = Folding taken text line₀ line i
 
 abbrev μ-loop : tie.MeasureT-loop
 μ-loop text line₀ i₀ line i = length text - i
 
-loop-holds : tie.Need-loop-holds Inv-loop μ-loop
-loop-holds c = (search needs, refl)
-
 loop-again : tie.Need-loop-again Inv-loop μ-loop
-loop-again c =
-    let l = c .before .before .before .loop in
-    let h : l .i < length (c .before .before .before .before .before .args .text .now) = omega arith in
-    (search needs, fold-on taken (l .line) _ (l .i) 0 _ h (c .take-byte .ensures) ∙ l .inv .1)
-
-returns : tie.Need-returns Inv-loop μ-loop
-returns c =
-    let l = c .before .loop in
-    let h : l .i ≡ length (c .before .before .before .args .text .now) = omega arith in
-    sym (fold-end taken (l .line) _ (l .i) h) ∙ l .inv .1
+loop-again c = let l = c .before .before .before .loop in folding-on taken _ _ 0 (l .line) _ (l .i) (omega arith) (c .take-byte .ensures) (l .inv)
 
 pub take-spec : {M : Type 1} → statement M
-take-spec = tie.close (tie.spec Inv-loop μ-loop loop-holds (λ c. search needs) (λ c κs. search needs) (λ c. search needs) (λ c. search needs) loop-again returns)
+take-spec = tie.close (tie.spec Inv-loop μ-loop (λ c. folding-none taken _ _) (λ c. search needs) (λ c κs. search needs) (λ c. search needs) (λ c. search needs) loop-again (λ c. folding-all taken _ _ _ _ (search needs) (c .before .loop .inv)))
