@@ -27,13 +27,10 @@ without --some, every kind of answer was among them.
 """
 
 import re
-import sys
-from random import Random
 
+import typed2
 import wire2
-from settings2 import read, shown, write
 
-SEED = 1974
 WIDTH = 2 ** 32
 PLEASE = ('please type data bits (5 to 8), parity (0 none, 1 odd, 2 even), stop cells (2, 3 or 4) and a character (0 to 255)')
 RANGES = {'data bits': range(5, 9), 'parity': range(3), 'stop cells': range(2, 5), 'character': range(256)}
@@ -111,33 +108,9 @@ def printed(text):
 
 # Comparing.
 
-def first_difference(text, got, counts):
-    """What to say of the first line that differs, or None; `counts` gets the kinds of the lines before it."""
-    *lines, rest = got.split('\n')
-    lines = iter(lines)
-    for at, line in enumerate(answered_lines(text), 1):
-        wanted, kinds = answer_and_kinds(line)
-        for want in wanted:
-            have = next(lines, None)
-            if have != want:
-                return f'line {at}: {shown(line)}\nexpected {shown(want)}\ngot      {shown(have)}'
-        for kind in kinds:
-            counts[kind] += 1
-    for have in lines:
-        return f'after the last line\nexpected nothing\ngot      {shown(have)}'
-    return f'a last line without a newline: {shown(rest)}' if rest else None
-
-
 def check(text, got, some=False):
     """Whether all lines agree and every kind is reached, or only some need be, and what to say."""
-    counts = dict.fromkeys(KINDS, 0)
-    difference = first_difference(text, got, counts)
-    if difference:
-        return False, difference
-    said = [f'{count:9}  {kind}' for kind, count in counts.items() if count or not some]
-    missing = [f'never reached: {kind}' for kind, count in counts.items() if count == 0 and not some]
-    agreed = f'{len(answered_lines(text))} lines typed, {got.count(chr(10))} lines printed, all agree'
-    return not missing, '\n'.join(said + [agreed] + missing)
+    return typed2.compared(KINDS, answered_lines(text), answer_and_kinds, got, some)
 
 
 # The texts.
@@ -172,17 +145,8 @@ SMALL_TEXT = '\n'.join((
     '7 2 2 256', '', '8 0 2 85', ''))
 
 
-class Typist:
-    """Writes the lines; only `Random.random` is used, as in sessions.py."""
-
-    def __init__(self):
-        self.random = Random(SEED).random
-
-    def below(self, n):
-        return int(self.random() * n)
-
-    def one_of(self, choices):
-        return choices[self.below(len(choices))]
+class Typist(typed2.Typist):
+    """Writes the lines."""
 
     def good(self):
         """The numbers of some frame."""
@@ -255,8 +219,7 @@ class Typist:
         """All the lines, mixed, so that each kind comes after each other kind."""
         lines = [*self.form_lines(), *self.range_lines(), *self.high_lines(), *self.zero_lines(), *self.count_lines(),
                  *self.byte_lines()]
-        keys = [(self.random(), number) for number in range(len(lines))]
-        return [lines[number] for _, number in sorted(keys)]
+        return self.mixed(lines)
 
 
 def fixed_text():
@@ -266,21 +229,5 @@ def fixed_text():
 
 # The orders.
 
-def main():
-    order, *rest = [word for word in sys.argv[1:] if word != '--some'] or ['']
-    if order == '--write' and len(rest) == 1:
-        write(rest[0], fixed_text())
-    elif order == '--last' and not rest:
-        print(len(SHORT_TEXTS))
-    elif order == '--last' and len(rest) == 2 and rest[0] in map(str, range(len(SHORT_TEXTS))):
-        write(rest[1], SHORT_TEXTS[int(rest[0])])
-    elif order == '--check' and len(rest) == 2:
-        agrees, said = check(read(rest[0]), read(rest[1]), '--some' in sys.argv)
-        print(said)
-        sys.exit(0 if agrees else 1)
-    else:
-        sys.exit(__doc__)
-
-
 if __name__ == '__main__':
-    main()
+    typed2.obey(__doc__, fixed_text, SHORT_TEXTS, check, 2)

@@ -31,13 +31,11 @@ each kind of unit.
 """
 
 import re
-import sys
 from functools import lru_cache
-from random import Random
 
 import mux2
+import typed2
 
-SEED = 1974
 MOST = 4294967295
 HIGHEST = 32767                             # the last word of memory
 LEAST = 64                                  # every base that setup takes is a multiple of this: 8b where b is 8
@@ -163,40 +161,14 @@ def bad_advice(line):
     return f'setup refuses what one is told to type with {code}' if code else None
 
 
-def first_difference(text, got, counts, told):
-    """What to say of the first line that differs, or None; `counts` gets the kinds of the lines before it."""
-    *printed, rest = got.split('\n')
-    printed = iter(printed)
-    for number, line in enumerate(answered_lines(text), 1):
-        lines, kinds = answer_and_kinds(line)
-        for want in [full(line, told) for line in lines]:
-            have = next(printed, None)
-            fault = bad_advice(have)
-            if fault or have != want:
-                return (f'line {number}: {shown(line)}\nexpected {want}\n'
-                        f'got      {shown(have)}' + (f'\n{fault}' if fault else ''))
-        for kind in kinds:
-            counts[kind] += 1
-    for have in printed:
-        return f'after the last line\nexpected nothing\ngot      {shown(have)}'
-    return f'a last line without a newline: {shown(rest)}' if rest else None
-
-
-def shown(line):
-    """A line so that it can be printed, however long and whatever is in it."""
-    return 'nothing' if line is None else ascii(line if len(line) < 200 else line[:200] + '...')
-
-
 def check(text, got, told, some=False):
     """Whether all lines agree and every kind is reached, or only some need be, and what to say."""
-    counts = dict.fromkeys(KINDS, 0)
-    difference = first_difference(text, got, counts, told)
-    if difference:
-        return False, difference
-    said = [f'{count:9}  {kind}' for kind, count in counts.items() if count or not some]
-    missing = [f'never reached: {kind}' for kind, count in counts.items() if count == 0 and not some]
-    agreed = f'{len(answered_lines(text))} lines typed, {got.count(chr(10))} lines printed, all agree'
-    return not missing, '\n'.join(said + [agreed] + missing)
+
+    def wanted(line):
+        lines, kinds = answer_and_kinds(line)
+        return [full(line, told) for line in lines], kinds
+
+    return typed2.compared(KINDS, answered_lines(text), wanted, got, some, bad_advice)
 
 
 # The texts.
@@ -245,17 +217,8 @@ def mighty_edges(b):
     return sorted(base for base in bases | {400, 1600, 15360, 15424, 33024, MOST} if 0 <= base <= MOST)
 
 
-class Typist:
-    """Writes the lines; only `Random.random` is used, as in sessions.py."""
-
-    def __init__(self):
-        self.random = Random(SEED).random
-
-    def below(self, n):
-        return int(self.random() * n)
-
-    def one_of(self, choices):
-        return choices[self.below(len(choices))]
+class Typist(typed2.Typist):
+    """Writes the lines."""
 
     def plain(self, *setting):
         return ' '.join(map(str, setting))
@@ -468,8 +431,7 @@ class Typist:
                  *self.spaced_lines(150), *self.too_big_lines(), *self.ill_formed_lines(), *self.crossing_lines(),
                  *self.blank_lines()]
         lines += self.mighty_lines()
-        keys = [(self.random(), number) for number in range(len(lines))]
-        return [lines[number] for _, number in sorted(keys)] + list(self.nothing_carried_over())
+        return self.mixed(lines) + list(self.nothing_carried_over())
 
 
 def fixed_text():
@@ -479,33 +441,9 @@ def fixed_text():
 
 # The orders.
 
-def read(name):
-    """A file's bytes, one a character, so that only a newline ends a line."""
-    with open(name, 'rb') as file:
-        return file.read().decode('latin-1')
-
-
-def write(name, text):
-    """A file with just the text's bytes, so that nothing is put at its end."""
-    with open(name, 'wb') as file:
-        file.write(text.encode('latin-1'))
-
-
-def main():
-    order, *words = [word for word in sys.argv[1:] if word != '--some'] or ['']
-    if order == '--write' and len(words) == 1:
-        write(words[0], fixed_text())
-    elif order == '--last' and not words:
-        print(len(SHORT_TEXTS))
-    elif order == '--last' and len(words) == 2 and words[0] in map(str, range(len(SHORT_TEXTS))):
-        write(words[1], SHORT_TEXTS[int(words[0])])
-    elif order == '--check' and len(words) == 3:
-        agrees, said = check(read(words[0]), read(words[1]), sentences(read(words[2])), '--some' in sys.argv)
-        print(said)
-        sys.exit(0 if agrees else 1)
-    else:
-        sys.exit(__doc__)
+def check_by_page(text, got, page, some):
+    return check(text, got, sentences(page), some)
 
 
 if __name__ == '__main__':
-    main()
+    typed2.obey(__doc__, fixed_text, SHORT_TEXTS, check_by_page, 3)
