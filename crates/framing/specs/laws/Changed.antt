@@ -157,40 +157,40 @@ odd-ones : (x y s a b : ℕ) → b < 2 → a ≡ 1 - b → y + b ≡ x + a → e
 odd-ones x y s a b l e q = ne-eqb ((x + s) % 2) ((y + s) % 2) (λ i. omega (arith, l, e, q, i))
 
 module _ (f : Form) (c : ℕ) (d : List ℕ) (fits : frameCells f ≤ length d) (k : ℕ) (inside : k < dataBits f) (v w : ℕ) (a : level v ≡ 1 - bitAt c k) (b : level w ≡ 1 - bitAt c k) where
-  -- the levels as they were written, and as they are
-  abbrev was : ℕ → ℕ
-  was = levelAt (written f c d fits)
+  -- the levels as they were written, and with the baud changed
+  abbrev sentAs : ℕ → ℕ
+  sentAs = levelAt (written f c d fits)
 
-  abbrev now : ℕ → ℕ
-  now = levelAt (withBaud (written f c d fits) (suc k) v w)
+  abbrev heardAs : ℕ → ℕ
+  heardAs = levelAt (withBaud (written f c d fits) (suc k) v w)
 
   -- the character that they are
   abbrev becomes : ℕ
-  becomes = dataOf now (dataBits f)
+  becomes = dataOf heardAs (dataBits f)
 
-  bauds : (i : ℕ) → (i ≡ suc k → ⊥) → (now (2 * i) ≡ was (2 * i)) × (now (2 * i + 1) ≡ was (2 * i + 1))
+  bauds : (i : ℕ) → (i ≡ suc k → ⊥) → (heardAs (2 * i) ≡ sentAs (2 * i)) × (heardAs (2 * i + 1) ≡ sentAs (2 * i + 1))
   bauds = other f c (parityBit f c) mark mark (written f c d fits) (written-fits f c d fits) (written-sounds f c d fits) (suc k) v w
 
-  changed : (now (2 * suc k) ≡ level v) × (now (2 * suc k + 1) ≡ level w)
+  changed : (heardAs (2 * suc k) ≡ level v) × (heardAs (2 * suc k + 1) ≡ level w)
   changed = here f c (parityBit f c) mark mark (written f c d fits) (written-fits f c d fits) (written-sounds f c d fits) (suc k) v w (omega (arith, inside, first-stop f .0))
 
-  written-bits : (j : ℕ) → j < dataBits f → (was (2 * suc j) ≡ bitAt c j) × (was (2 * suc j + 1) ≡ bitAt c j)
+  written-bits : (j : ℕ) → j < dataBits f → (sentAs (2 * suc j) ≡ bitAt c j) × (sentAs (2 * suc j + 1) ≡ bitAt c j)
   written-bits = written-sounds f c d fits .bits
 
   -- a data bit's halves are alike still
-  halves : (j : ℕ) → j < dataBits f → now (2 * suc j) ≡ now (2 * suc j + 1)
+  halves : (j : ℕ) → j < dataBits f → heardAs (2 * suc j) ≡ heardAs (2 * suc j + 1)
   halves j l = go (ℕ-discrete j k)
     where
-      go : Dec (j ≡ k) → now (2 * suc j) ≡ now (2 * suc j + 1)
+      go : Dec (j ≡ k) → heardAs (2 * suc j) ≡ heardAs (2 * suc j + 1)
       go (yes e) = rw e (changed .0 ∙ a ∙ sym (changed .1 ∙ b))
       go (no n) =
           let o = bauds (suc j) (λ e. n (omega (arith, e))) in
           o .0 ∙ written-bits j l .0 ∙ sym (o .1 ∙ written-bits j l .1)
 
-  below : (i : ℕ) → now i < 2
+  below : (i : ℕ) → heardAs i < 2
   below = level-at-below (withBaud (written f c d fits) (suc k) v w)
 
-  sounds : Sounds f becomes (parityBit f c) mark mark now
+  sounds : Sounds f becomes (parityBit f c) mark mark heardAs
   sounds =
       let h = written-sounds f c d fits in
       let first = bauds 0 (λ e. omega (arith, e)) in
@@ -198,13 +198,13 @@ module _ (f : Form) (c : ℕ) (d : List ℕ) (fits : frameCells f ≤ length d) 
       let between = bauds (suc (dataBits f)) (λ e. omega (arith, e, inside)) in
       record {
         start = (first .0 ∙ h .start .0, first .1 ∙ h .start .1);
-        bits = λ j l. let r = bit-read now below (dataBits f) j l in (sym r, sym (r ∙ halves j l));
+        bits = λ j l. let r = bit-read heardAs below (dataBits f) j l in (sym r, sym (r ∙ halves j l));
         parity = λ p. (between .0 ∙ h .parity p .0, between .1 ∙ h .parity p .1);
         stop = (last .0 ∙ h .stop .0, last .1 ∙ h .stop .1);
       }
 
   narrow : becomes < 2 ^ dataBits f
-  narrow = data-below now below (dataBits f)
+  narrow = data-below heardAs below (dataBits f)
 
   itself : limited f becomes ≡ becomes
   unfolding limited
@@ -214,11 +214,11 @@ module _ (f : Form) (c : ℕ) (d : List ℕ) (fits : frameCells f ≤ length d) 
   seen : eqb (parityBit f c) (parityBit f becomes) ≡ false
   unfolding parityBit
   seen =
-      let x : ones (limited f c) ≡ countOf was (dataBits f) = ap ones (sym (sounds-data f c (parityBit f c) mark mark was (written-sounds f c d fits))) ∙ ones-data was (level-at-below (written f c d fits)) (dataBits f) in
-      let y : ones (limited f becomes) ≡ countOf now (dataBits f) = ap ones itself ∙ ones-data now below (dataBits f) in
-      let o = count-but-one was now (dataBits f) k inside (λ j l n. bauds (suc j) (λ e. n (omega (arith, e))) .0) in
+      let x : ones (limited f c) ≡ countOf sentAs (dataBits f) = ap ones (sym (sounds-data f c (parityBit f c) mark mark sentAs (written-sounds f c d fits))) ∙ ones-data sentAs (level-at-below (written f c d fits)) (dataBits f) in
+      let y : ones (limited f becomes) ≡ countOf heardAs (dataBits f) = ap ones itself ∙ ones-data heardAs below (dataBits f) in
+      let o = count-but-one sentAs heardAs (dataBits f) k inside (λ j l n. bauds (suc j) (λ e. n (omega (arith, e))) .0) in
       let bit = written-bits k inside .0 in
-      rw (x, y) (odd-ones (countOf was (dataBits f)) (countOf now (dataBits f)) (sense f) (now (2 * suc k)) (was (2 * suc k)) (omega (arith, bit, bit-at-below c k)) (omega (arith, changed .0, a, bit)) o)
+      rw (x, y) (odd-ones (countOf sentAs (dataBits f)) (countOf heardAs (dataBits f)) (sense f) (heardAs (2 * suc k)) (sentAs (2 * suc k)) (omega (arith, bit, bit-at-below c k)) (omega (arith, changed .0, a, bit)) o)
 
   -- a data bit the other way, and nothing else
   pub changed-bit : ChangedBit f c k (readFrame f (withBaud (writeFrame f c d .cells) (k + 1) v w))
@@ -232,8 +232,8 @@ module _ (f : Form) (c : ℕ) (d : List ℕ) (fits : frameCells f ≤ length d) 
       rw r
       record {
         code = refl;
-        this = bit-read now below (dataBits f) k inside ∙ changed .0 ∙ a;
-        others = λ j l n. bit-read now below (dataBits f) j l ∙ bauds (suc j) (λ e. n (omega (arith, e))) .0 ∙ written-bits j l .0;
+        this = bit-read heardAs below (dataBits f) k inside ∙ changed .0 ∙ a;
+        others = λ j l n. bit-read heardAs below (dataBits f) j l ∙ bauds (suc j) (λ e. n (omega (arith, e))) .0 ∙ written-bits j l .0;
         below = narrow;
         parity = refl;
         brk = refl;
