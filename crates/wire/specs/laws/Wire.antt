@@ -2,6 +2,7 @@
 --   framedFor           a frame written for a port's control bits, read by them, as an arrival
 --   framed-arrival      it is the arrival of the character, cut to the port's length, without a mark
 --   framed-line         and the unit does what it does when the character itself arrives there, unmarked; refusals too
+--   framed-step, framed-call   the same of the call that an emulator makes, and through the door
 --   framed-held         so the port holds that character, with neither mark of its own
 --   AsRead, any-held    whatever was read, marks and all, is held as it was read
 -- Not here: what is read of a frame that was changed, in framing; what becomes of a held character, in input.
@@ -22,12 +23,18 @@ use Rattle.framing.specs.laws.Any.{read-below}
 use Rattle.framing.specs.laws.Eds8.{eds8-bits, eds8-back}
 use Rattle.unit.specs.declared.mux.Port.{Port}
 use Rattle.unit.specs.declared.mux.Mux.{Mux}
+use Rattle.unit.specs.declared.reply.Reply.{Reply}
 use Rattle.unit.specs.Record.{portAt}
+use Rattle.unit.specs.Reply.{World}
 use Rattle.unit.specs.Refusals.{refusal, ofPort}
 use Rattle.lines.specs.declared.signal.Signal.{Signal}
 use Rattle.lines.specs.declared.signal.Signal.the-variants.{Arrival}
 use Rattle.lines.specs.Lines.{signalled, line}
 use Rattle.lines.specs.laws.Lines.{CharacterOnly, arrived, arrived-only}
+use Rattle.calls.specs.declared.call.Act.the-variants.{Line}
+use Rattle.calls.specs.declared.call.What.the-variants.{Do}
+use Rattle.calls.specs.Calls.{performed, stepOf, step, asking}
+use Rattle.door.specs.Door.{Meets}
 use Rattle.wire.specs.Wire.{arrivalOf}
 
 -- port q' is q with the character of the frame r held, its marks those of r and its bits those that were read
@@ -59,6 +66,15 @@ same-port q c d h = ap (signalled q) (framed-arrival (q .control) c d h) ∙ ap 
 pub framed-line : (u : Mux) (p c : ℕ) (d : List ℕ) → frameCells (formOf (portAt u p .control)) ≤ length d → line u p (framedFor (portAt u p .control) c d) ≡ line u p (Arrival c false false)
 unfolding line
 framed-line u p c d h = rw (same-port (portAt u p) c d h) refl
+
+-- so does the call that an emulator makes: reply, record, memory and list
+pub framed-step : (w : World) (xs : List ℕ) (p c : ℕ) (d : List ℕ) → frameCells (formOf (portAt (w .mux) p .control)) ≤ length d → step w xs (asking (Do (Line p (framedFor (portAt (w .mux) p .control) c d)))) ≡ step w xs (asking (Do (Line p (Arrival c false false))))
+unfolding stepOf performed
+framed-step w xs p c d h = rw (framed-line (w .mux) p c d h) refl
+
+-- and through the door: whatever meets the contract of the one call meets that of the other
+pub framed-call : (w : World) (xs : List ℕ) (p c : ℕ) (d : List ℕ) (r : Reply) (u : Mux) (m ys : List ℕ) → frameCells (formOf (portAt (w .mux) p .control)) ≤ length d → Meets w xs (asking (Do (Line p (framedFor (portAt (w .mux) p .control) c d)))) r u m ys → Meets w xs (asking (Do (Line p (Arrival c false false)))) r u m ys
+framed-call w xs p c d r u m ys h e = e ∙ framed-step w xs p c d h
 
 -- so a port that takes it holds that character, with neither mark of its own, and nothing else of the port has changed
 pub framed-held : (u : Mux) (p c : ℕ) (d : List ℕ) → refusal (ofPort u p) ≡ 0 → p < length (u .port) → frameCells (formOf (portAt u p .control)) ≤ length d → CharacterOnly (portAt u p) c false false (portAt (line u p (framedFor (portAt u p .control) c d) .mux) p)
