@@ -17,13 +17,17 @@ use Rattle.framing.specs.Form.{dataBits, stopCells}
 unfoldable pub bitsNumbered : ℕ → DataBits
 bitsNumbered x = pick (eqb x 0) Five (pick (eqb x 1) Six (pick (eqb x 2) Seven Eight))
 
+-- one of three, by a number: 0, 1, or any other
+unfoldable pub ofThree : {A : Type 0} → A → A → A → ℕ → A
+ofThree a b c x = pick (eqb x 0) a (pick (eqb x 1) b c)
+
 -- 0 none, 1 odd, 2 even
-unfoldable pub parityNumbered : ℕ → Parity
-parityNumbered x = pick (eqb x 0) Inhibited (pick (eqb x 1) Odd Even)
+abbrev pub parityNumbered : ℕ → Parity
+parityNumbered x = ofThree Inhibited Odd Even x
 
 -- 0 one, 1 one and a half, 2 two
-unfoldable pub stopsNumbered : ℕ → Stops
-stopsNumbered x = pick (eqb x 0) One (pick (eqb x 1) OneAndHalf Two)
+abbrev pub stopsNumbered : ℕ → Stops
+stopsNumbered x = ofThree One OneAndHalf Two x
 
 -- from 36 on they are the same forms again
 unfoldable pub formNumbered : ℕ → Form

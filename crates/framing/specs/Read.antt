@@ -4,7 +4,7 @@
 --   dataOf                 the data bits put together
 --   parityMark, breakMark  the marks
 --   readCode               refusals 19 and 20, or 0
---   readFrame              the call
+--   readFrame, Looked      the call, and what it leaves
 -- Not here: what the parity bit should be, in Cells; what follows, in laws/Read.
 -- Assumes nothing.
 use mathlib.Core.Bool.{Bool, true, false, not, _&&_, _||_}
@@ -75,6 +75,14 @@ frameRead f g =
 -- a refusal: its number, and zeros beside it
 abbrev pub unread : ℕ → Frame
 unread k = record { code = k; c = 0; parity = false; brk = false; used = 0 }
+
+-- what the call leaves: its answer and the list
+pub record Looked : Type 0 where
+  pub answer : Frame
+  pub cells : List ℕ
+
+abbrev pub looked : Frame → List ℕ → Looked
+looked r xs = record { answer = r; cells = xs }
 
 -- the call: refused by its number, or what was read
 unfoldable pub readFrame : Form → List ℕ → Frame

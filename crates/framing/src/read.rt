@@ -10,7 +10,7 @@ ghost use Prim.Native.Nat.{_+_, _*_, _<_, _≤_};
 ghost use lib.ListN.{length};
 ghost use Rattle.ground.specs.Choose.{Below};
 ghost use Rattle.framing.specs.Form.{frameCells};
-ghost use Rattle.framing.specs.Read.{level, levelAt, startsWell, alike, wholeTo, dataOf, parityMark, breakMark, readCode, frameRead, readFrame};
+ghost use Rattle.framing.specs.Read.{level, levelAt, startsWell, alike, wholeTo, dataOf, parityMark, breakMark, readCode, frameRead, readFrame, looked};
 
 // The list is shorter than the whole frame.
 pub const TOO_SHORT: u8 = 19;
@@ -142,9 +142,9 @@ fn frame_read(f: Form, cells: &[u8]) -> Frame
     }
 }
 
-// A frame, read from the lent cells.
+// A frame, read from the lent cells, which stay as they were.
 pub fn read_frame(f: Form, cells: &[u8]) -> Frame
-    ensures { λ r. ⌜ r ≡ readFrame f (now (cells .entry)) ⌝ }
+    ensures { λ r. ⌜ looked r (now (cells .exit)) ≡ looked (readFrame f (now (cells .entry))) (now (cells .entry)) ⌝ }
 {
     let code = read_code(f, cells);
     if code != 0 {

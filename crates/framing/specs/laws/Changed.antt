@@ -6,7 +6,7 @@
 -- Not here: lists that are no such change, in Any.
 -- Assumes nothing.
 use mathlib.Core.Path.{_≡_, refl, sym, _∙_, ap, subst⁻¹}
-use mathlib.Core.Bool.{Bool, true, false, not, _&&_, _||_}
+use mathlib.Core.Bool.{Bool, true, false, not, _&&_, _||_, and-true, or-true}
 use mathlib.Core.List.{List}
 use mathlib.Core.Logic.{_⊎_, inl, inr}
 use Prim.Native.Nat.{ℕ, suc, _+_, _-_, _*_, _%_, _^_, _<_, _≤_}
@@ -79,11 +79,7 @@ module _ (f : Form) (c q s t : ℕ) (cells : List ℕ) (fits : frameCells f ≤ 
 
 either-space : (x y : ℕ) → (x ≡ space) ⊎ (y ≡ space) → (eqb x space || eqb y space) ≡ true
 either-space x y (inl e) = rw (eq-eqb x space e) refl
-either-space x y (inr e) = rw (eq-eqb y space e) (or-right (eqb x space))
-  where
-    or-right : (t : Bool) → (t || true) ≡ true
-    or-right true = refl
-    or-right false = refl
+either-space x y (inr e) = rw (eq-eqb y space e) (or-true (eqb x space))
 
 -- the other level is not the level itself
 other-way : (x y : ℕ) → y < 2 → x ≡ 1 - y → eqb x y ≡ false
@@ -147,10 +143,6 @@ pub record ChangedBit (f : Form) (c k : ℕ) (r : Frame) : Type 0 where
   pub parity : r .parity ≡ hasParity f
   pub brk : r .brk ≡ false
   pub used : r .used ≡ frameCells f
-
-and-true-right : (t : Bool) → (t && true) ≡ t
-and-true-right true = refl
-and-true-right false = refl
 
 -- one more or one fewer
 odd-ones : (x y s a b : ℕ) → b < 2 → a ≡ 1 - b → y + b ≡ x + a → eqb ((x + s) % 2) ((y + s) % 2) ≡ false
@@ -227,7 +219,7 @@ module _ (f : Form) (c : ℕ) (d : List ℕ) (fits : frameCells f ≤ length d) 
       rw (add-one k)
       (sounds-read f becomes (parityBit f c) mark mark (withBaud (written f c d fits) (suc k) v w)
       (changed-fits f c (parityBit f c) mark mark (written f c d fits) (written-fits f c d fits) (written-sounds f c d fits) (suc k) v w) sounds
-      ∙ rw (itself, seen) (ap (λ (t : Bool). heard f becomes t false) (and-true-right (hasParity f))))
+      ∙ rw (itself, seen) (ap (λ (t : Bool). heard f becomes t false) (and-true (hasParity f))))
       in
       rw r
       record {

@@ -1,5 +1,5 @@
 -- The levels of a list of cells: of one that was written, and of one in which a baud was changed.
---   level-itself      0 and 1 are their own levels; level-mark: any other byte is a mark
+--   level-itself      0 and 1 are their own levels
 --   cell-in, cell-past, cells-length   every cell of the list after a frame was written
 --   written-level     its levels are the frame's
 --   withBaud          a list with other cells in one baud; changed-first, changed-second, changed-else, changed-length
@@ -11,13 +11,11 @@ use Prim.Native.Nat.{ℕ, zero, suc, _+_, _*_, _<_, _≤_}
 use native.Mathlib.Omega.{arith}
 use lib.ListN.{length, getD, set, length-set}
 use lib.Seq.{getD-set-same, getD-set-other}
-use borrow.Author.Tests.{ne-eqb}
 use Rattle.ground.specs.Choose.{pick}
-use Rattle.ground.specs.laws.Rows.{pick-false}
 use Rattle.ground.specs.laws.Arrays.{tab-in, tab-past, tab-to-length}
 use Rattle.framing.specs.declared.form.Form.{Form}
 use Rattle.framing.specs.Form.{frameCells}
-use Rattle.framing.specs.Cells.{mark, frameCell}
+use Rattle.framing.specs.Cells.{frameCell}
 use Rattle.framing.specs.Write.{writeFrame}
 use Rattle.framing.specs.Read.{level, levelAt}
 use Rattle.framing.specs.laws.Cells.{cell-below}
@@ -28,11 +26,6 @@ unfolding level pick
 level-itself zero h = refl
 level-itself (suc zero) h = refl
 level-itself (suc (suc x)) h = absurd (omega (arith, h))
-
--- any byte but 0
-pub level-mark : (x : ℕ) → 0 < x → level x ≡ mark
-unfolding level
-level-mark x h = pick-false _ _ _ (ne-eqb x 0 (λ e. omega (arith, e, h)))
 
 -- ---- every cell of the list after a frame was written
 

@@ -1,10 +1,13 @@
 -- Every form has its number, below 36, and no two forms the same; so there are 36 forms.
+--   three-first, three-second, three-third   one of three, by a number
+--   number-below, number-back                a form's number, and the form of its number
 -- Not here: the numbers, in specs/Number.
 -- Assumes nothing.
 use mathlib.Core.Path.{_≡_, refl}
 use Prim.Native.Nat.{ℕ, _+_, _-_, _*_, _/_, _%_, _<_}
 use native.Mathlib.Omega.{arith}
 use lib.Dec.{lit<}
+use borrow.Author.Tests.{ne-eqb}
 use Rattle.ground.specs.Choose.{pick}
 use Rattle.framing.specs.declared.form.DataBits.{DataBits}
 use Rattle.framing.specs.declared.form.DataBits.the-variants.{Five, Six, Seven, Eight}
@@ -14,7 +17,7 @@ use Rattle.framing.specs.declared.form.Stops.{Stops}
 use Rattle.framing.specs.declared.form.Stops.the-variants.{One, OneAndHalf, Two}
 use Rattle.framing.specs.declared.form.Form.{Form}
 use Rattle.framing.specs.Form.{bitsNumber, dataBits, halvesOf, stopCells}
-use Rattle.framing.specs.Number.{bitsNumbered, parityNumbered, stopsNumbered, formNumbered, numberOf, parityNumber, formNumber}
+use Rattle.framing.specs.Number.{bitsNumbered, ofThree, parityNumbered, stopsNumbered, formNumbered, numberOf, parityNumber, formNumber}
 use Rattle.framing.specs.laws.Form.{data-bits, stop-cells}
 
 bits-back : (b : DataBits) → bitsNumbered (bitsNumber b - 5) ≡ b
@@ -24,14 +27,28 @@ bits-back Six = refl
 bits-back Seven = refl
 bits-back Eight = refl
 
+-- one of three
+module _ {A : Type 0} (a b c : A) (x : ℕ) where
+  pub three-first : x ≡ 0 → a ≡ ofThree a b c x
+  unfolding ofThree pick
+  three-first e = rw e refl
+
+  pub three-second : x ≡ 1 → b ≡ ofThree a b c x
+  unfolding ofThree pick
+  three-second e = rw e refl
+
+  pub three-third : (x ≡ 0 → ⊥) → (x ≡ 1 → ⊥) → c ≡ ofThree a b c x
+  unfolding ofThree pick
+  three-third m n = rw (ne-eqb x 0 m, ne-eqb x 1 n) refl
+
 parity-back : (p : Parity) → parityNumbered (numberOf p) ≡ p
-unfolding parityNumbered pick
+unfolding ofThree pick
 parity-back Inhibited = refl
 parity-back Odd = refl
 parity-back Even = refl
 
 stops-back : (s : Stops) → stopsNumbered (halvesOf s - 2) ≡ s
-unfolding stopsNumbered pick
+unfolding ofThree pick
 stops-back One = refl
 stops-back OneAndHalf = refl
 stops-back Two = refl

@@ -1,5 +1,5 @@
 -- What is read of a list of cells.
---   level-below          a level is 0 or 1
+--   level-mark, level-below   any byte but 0 is a mark; a level is 0 or 1
 --   data-below           n data bits make a number below 2 ^ n
 --   data-step, data-narrow, data-end, whole-step, whole-end   the bauds taken from the top down
 --   whole-all, whole-each   what the test of the halves says
@@ -12,20 +12,19 @@ use mathlib.Core.Logic.{_⊎_, inl, inr}
 use Prim.Native.Nat.{ℕ, zero, suc, _+_, _-_, _*_, _^_, _<_, _≤_}
 use native.Mathlib.Nat.{le-of-suc-le-suc, not-suc-le-zero, eq-or-lt-of-le, mul-le-mul-left, mul-le-mul-right, mul-one, one-mul, add-zero, add-mul, add-assoc, mul-assoc, mul-comm, pow-suc}
 use native.Mathlib.Omega.{arith}
-use lib.Dec.{lit<}
+use lib.Dec.{eqb, lit<}
 use lib.ListN.{getD}
 use lib.Pow.{pow-pos, pow-mono}
-use borrow.Author.Tests.{eq-eqb, eqb-true}
-use Rattle.ground.specs.Choose.{pick}
-use Rattle.ground.specs.laws.Rows.{and-true}
+use borrow.Author.Tests.{eq-eqb, ne-eqb, eqb-true}
+use Rattle.ground.specs.laws.Rows.{pick-false, and-true}
 use Rattle.framing.specs.Cells.{space, mark}
 use Rattle.framing.specs.Read.{level, levelAt, alike, wholeTo, dataOf}
 use Rattle.framing.specs.laws.Cells.{chosen-below}
 
--- 0 alone is space: 2 reads as 1 does
-two-marks : level 2 ≡ mark
-unfolding level pick
-two-marks = refl
+-- 0 alone is space: any other byte is a mark
+pub level-mark : (x : ℕ) → 0 < x → level x ≡ mark
+unfolding level
+level-mark x h = pick-false (eqb x 0) space mark (ne-eqb x 0 (λ e. omega (arith, e, h)))
 
 pub level-below : (x : ℕ) → level x < 2
 unfolding level

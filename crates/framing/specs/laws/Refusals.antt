@@ -54,7 +54,7 @@ pub write-fits : (f : Form) (c : ℕ) (cells : List ℕ) → frameCells f ≤ le
 unfolding writeFrame pick
 write-fits f c cells h = rw (code-fits f cells h) refl
 
--- 18 exactly when the list is shorter than the whole frame; else 0
+-- 18 exactly when the list is shorter than the whole frame
 pub write-18 : (f : Form) (c : ℕ) (cells : List ℕ) → (writeFrame f c cells .answer .code ≡ NO-ROOM) ↔ (length cells < frameCells f)
 write-18 f c cells = (λ e. go e (short-or-fits f cells), λ h. rw (write-short f c cells h) refl)
   where

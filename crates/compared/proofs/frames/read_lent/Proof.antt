@@ -3,7 +3,7 @@ use mathlib.Core.Path.{_∙_, ap}
 use mathlib.Core.List.{List}
 use Prim.Native.Nat.{ℕ}
 use borrow.Author.Needs.{needs}
-use Rattle.framing.specs.Read.{readFrame}
+use Rattle.framing.specs.Read.{Looked, readFrame}
 use Rattle.compared.specs.laws.Lent.{part-most}
 use Rattle.compared.proofs.frames.read_lent.Statement.{statement}
 use Rattle.compared.proofs.frames.read_lent.Tie as tie
@@ -11,7 +11,7 @@ use Rattle.compared.proofs.frames.read_lent.Tie as tie
 returns : tie.Need-returns
 returns c =
     let a = c .before .before .before .before .before .args in
-    c .read-frame .ensures ∙ ap (λ (xs : List ℕ). readFrame (a .f) xs) (part-most (a .cells .now) (a .from) (a .count) _ _ (c .before .before .before .lent .ensures) (c .before .before .lent-to .ensures))
+    ap (λ (w : Looked). w .answer) (c .read-frame .ensures) ∙ ap (λ (xs : List ℕ). readFrame (a .f) xs) (part-most (a .cells .now) (a .from) (a .count) _ _ (c .before .before .before .lent .ensures) (c .before .before .lent-to .ensures))
 
 pub read-lent-spec : {M : Type 1} → statement M
 read-lent-spec =
