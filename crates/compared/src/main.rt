@@ -1,4 +1,5 @@
 // The proved code, compared with the second program: reads the text of sessions (tests/second/FORMAT.md) on standard input, makes each call and prints the lines that the text asks for.
+#![tactic(auto)]
 mod frames;
 
 ghost use Rattle.std.specs.Prelude.{◌≡◌, take};

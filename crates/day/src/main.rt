@@ -1,4 +1,5 @@
 // A school day played again, in plain words: reads a recording on standard input, in parts, plays each event from a record of zeros and a memory of zeros, and prints what was asked and what came of it.
+#![tactic(auto)]
 mod names;
 mod say;
 

@@ -1,4 +1,5 @@
 // The interrupt side of the unit: the flag, and the status word of an EDS-8 or the stack of a Mighty Mux, and all that changes them. No crate of the multiplexer reads or writes inside it; the digests and pokes of driver do.
+#![tactic(auto)]
 pub mod stack;
 pub mod status;
 

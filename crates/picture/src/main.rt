@@ -1,4 +1,5 @@
 // For the hobbyist: type data bits, parity, stop cells and a character on a line, and see the character's frame as a picture of the line.
+#![tactic(auto)]
 mod asked;
 mod draw;
 mod say;

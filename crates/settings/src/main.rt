@@ -1,4 +1,5 @@
 // For caretakers: type a block size, a number of ports and a base on a line, and an m for a Mighty Mux, and see what setup says of them and what to type instead.
+#![tactic(auto)]
 mod advice;
 mod say;
 mod typed;

@@ -1,4 +1,5 @@
 // A recording that comes in parts, read byte by byte (document 02, K8).
+#![tactic(auto)]
 ghost use Rattle.std.specs.Prelude.{◌≡◌, ◌≤◌};
 ghost use Rattle.stream.specs.Stream.{begun, counted, judged, opened, grown, took, ready, event, ended};
 

@@ -1,4 +1,5 @@
 // The proved recordings, compared with the second program: reads the text of sessions (tests/second/TAPES.md) on standard input, writes, reads and replays recordings and prints the lines that the text asks for.
+#![tactic(auto)]
 mod events;
 mod lent;
 mod told;

@@ -1,0 +1,6 @@
+-- `words::pointer::step_ptr` meets its contract: it is the sum that is ensured.
+use Rattle.std.proofs.Common.{rules}
+use Rattle.words.proofs.pointer.step_ptr.Goals as goal
+
+pub returns : goal.returns
+returns c = c.wrapping_add_u16.ensures.value
