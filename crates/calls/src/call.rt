@@ -8,7 +8,7 @@ use unit::mux::Setting;
 use unit::setup::no_setting;
 
 // One thing asked of the unit that stands: a signal of a line at a port, an order of the processor's, an inspection.
-#[derive(Drop)]
+#[derive(Clone, Copy)]
 pub enum Act {
     Line { port: u32, signal: Signal },
     Processor { order: Order },
@@ -16,7 +16,7 @@ pub enum Act {
 }
 
 // What is asked: a new unit, one thing of the unit that stands, or a sweep of n inspections.
-#[derive(Drop)]
+#[derive(Clone, Copy)]
 pub enum What {
     Setup,
     Do { act: Act },
@@ -24,7 +24,7 @@ pub enum What {
 }
 
 // A call. The setting of a setup stands beside what is asked, since an enum cannot hold what grows arrays; every other call leaves it alone.
-#[derive(Drop)]
+#[derive(Clone, Copy)]
 pub struct Call {
     pub what: What,
     pub setting: Setting,

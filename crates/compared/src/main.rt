@@ -37,7 +37,7 @@ use words::special::{set_1974, with_code};
 use words::speed::speed_of;
 
 // What the driver keeps beside the memory and the list: whether the text goes on, the line being read, the unit, how many words and places are lent, the set and the kind that setups are given, the cells and which of them are lent.
-#[derive(Drop)]
+#[derive(Clone, Copy)]
 struct Desk {
     going: bool,
     line: Line,

@@ -3,7 +3,7 @@ ghost use Rattle.std.specs.Prelude.{◌≡◌, ◌<◌};
 ghost use Rattle.driver.specs.Text.{blank, is_digit, appended, extended, ended, typed};
 
 // The numbers of the line that have ended, how many they are, and the number that is being read.
-#[derive(Drop)]
+#[derive(Clone, Copy)]
 pub struct Line {
     pub n: [u32; 5],
     pub count: u32,

@@ -4,7 +4,7 @@ ghost use Rattle.ground.specs.Choose.{pick};
 ghost use Rattle.driver.specs.Printed.{nothing, and, decimal, line_of, line, Put};
 
 // The numbers to print, and how many they are.
-#[derive(Drop)]
+#[derive(Clone, Copy)]
 pub struct Said {
     pub n: [u64; 10],
     pub count: u32,

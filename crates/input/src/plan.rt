@@ -1,5 +1,5 @@
 // What an input service is to do, decided before its first store: the byte stored and the pointer stepped or not, ICW written or not, an echo or not, an interrupt or not.
-#[derive(Drop)]
+#[derive(Clone, Copy)]
 pub struct Plan {
     pub store: bool,
     pub byte: u8,

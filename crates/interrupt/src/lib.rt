@@ -1,5 +1,6 @@
 // The interrupt side of the unit: the flag, and the status word of an EDS-8 or the stack of a Mighty Mux, and all that changes them. No crate of the multiplexer reads or writes inside it; the digests and pokes of driver do.
 #![tactic(auto)]
+
 pub mod stack;
 pub mod status;
 
@@ -11,21 +12,21 @@ use words::codes::REAL_TIME;
 use words::field::put;
 
 // The two kinds of unit.
-#[derive(Drop)]
+#[derive(Clone, Copy)]
 pub enum Kind {
     Eds8,
     MightyMux,
 }
 
 // The two services of a port, each of which may raise an interrupt.
-#[derive(Drop)]
+#[derive(Clone, Copy)]
 pub enum Service {
     Input,
     Output,
 }
 
 // The interrupt flag and the status word; of a Mighty Mux the lost mark, how many entries are stacked, and the stack, the oldest entry first.
-#[derive(Drop)]
+#[derive(Clone, Copy)]
 pub struct Irq {
     pub flag: bool,
     pub status: u16,

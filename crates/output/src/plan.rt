@@ -1,5 +1,5 @@
 // What the mode of an output service asks for, before a change of the line is looked at: a byte handed over or not, done or not, the control bits and the Device Control level after it.
-#[derive(Drop)]
+#[derive(Clone, Copy)]
 pub struct Plan {
     pub sent: bool,
     pub byte: u8,

@@ -7,7 +7,7 @@ use framing::form::Form;
 use framing::number::form_numbered;
 
 // Whether there is a frame to draw, its form and its character.
-#[derive(Drop)]
+#[derive(Clone, Copy)]
 pub struct Asked {
     pub good: bool,
     pub form: Form,

@@ -6,7 +6,7 @@ use framing::cells::frame_cell;
 use framing::form::{Form, data_bits, first_stop};
 
 // The three rows: where the line is at mark, where it is at space, and which bit each cell is of.
-#[derive(Drop)]
+#[derive(Clone, Copy)]
 pub enum Row {
     Marks,
     Spaces,

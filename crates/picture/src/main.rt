@@ -14,14 +14,14 @@ use crate::say::say;
 use driver::read::{Line, blank, typed};
 
 // What is typed of a line: whether there is anything, and its numbers.
-#[derive(Drop)]
+#[derive(Clone, Copy)]
 struct Typing {
     begun: bool,
     line: Line,
 }
 
 // What is kept between two reads: whether there is more to read, and the line so far.
-#[derive(Drop)]
+#[derive(Clone, Copy)]
 struct Reader {
     going: bool,
     typing: Typing,

@@ -1,5 +1,5 @@
 // What the processor orders: IORST or CLEAR, the instructions, and the tick of the 10 ms clock (001, 5).
-#[derive(Drop)]
+#[derive(Clone, Copy)]
 pub enum Order {
     Reset,
     Iopls,

@@ -12,7 +12,7 @@ use unit::reply::{Answer, Turn};
 use unit::setup::no_character;
 
 // What a turn changes: the answer, the port and the interrupt side after it.
-#[derive(Drop)]
+#[derive(Clone, Copy)]
 pub struct Turned {
     pub answer: Answer,
     pub port: Port,

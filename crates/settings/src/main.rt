@@ -14,7 +14,7 @@ use crate::say::{answered, say};
 use crate::typed::{Line, blank, started, typed};
 
 // What is kept between two reads: whether there is more to read, and the line so far.
-#[derive(Drop)]
+#[derive(Clone, Copy)]
 struct Reader {
     going: bool,
     line: Line,

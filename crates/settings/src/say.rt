@@ -10,7 +10,7 @@ use unit::mux::Setting;
 use unit::refusal::setup_code;
 
 // Whether the line was three numbers, with or without the m; then setup's number for them, and what to type instead.
-#[derive(Drop)]
+#[derive(Clone, Copy)]
 pub struct Answer {
     pub whole: bool,
     pub code: u8,

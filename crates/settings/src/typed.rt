@@ -8,7 +8,7 @@ use unit::mux::Setting;
 use words::special::set_1974;
 
 // What is read of a line so far: its last three numbers, how many it has up to three, whether the last may go on, whether the m is there, and whether anything on it is wrong.
-#[derive(Drop)]
+#[derive(Clone, Copy)]
 pub struct Line {
     pub block: u32,
     pub ports: u32,

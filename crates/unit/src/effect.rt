@@ -1,5 +1,5 @@
 // What a port's service may change beside the memory: the byte handed to the transmitter, whether an interrupt is raised, the control bits and the Device Control level after it.
-#[derive(Drop)]
+#[derive(Clone, Copy)]
 pub struct Effect {
     pub sent: bool,
     pub byte: u8,

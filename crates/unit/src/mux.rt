@@ -7,7 +7,7 @@ ghost use Rattle.unit.specs.Sound.{Fits};
 use interrupt::{Irq, Kind};
 
 // What setup takes: the kind of unit, block size, P, base, and the set of special codes, a yes or no for each of the 128 seven-bit codes.
-#[derive(Drop)]
+#[derive(Clone, Copy)]
 pub struct Setting {
     pub kind: Kind,
     pub block: u32,
@@ -17,7 +17,7 @@ pub struct Setting {
 }
 
 // A character as it was received: its code, and the parity, break and overload marks.
-#[derive(Drop)]
+#[derive(Clone, Copy)]
 pub struct Character {
     pub byte: u8,
     pub parity: bool,
@@ -26,7 +26,7 @@ pub struct Character {
 }
 
 // A port: the held character, whether the transmitter's buffer is empty, the eight control bits, the Device Control level, the Device Status line.
-#[derive(Drop)]
+#[derive(Clone, Copy)]
 pub struct Port {
     pub held: bool,
     pub ch: Character,
@@ -37,7 +37,7 @@ pub struct Port {
 }
 
 // The unit: its setting, the scan position, whether the unit and the 10 ms clock run, the interrupt side, the ports.
-#[derive(Drop)]
+#[derive(Clone, Copy)]
 pub struct Mux {
     pub setting: Setting,
     pub pos: u32,

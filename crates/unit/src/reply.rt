@@ -7,7 +7,7 @@ use crate::mux::Mux;
 use interrupt::Service;
 
 // What an inspection served. Nothing: refused or stopped. Idle: a running turn that serves nothing, and still names its port.
-#[derive(Drop)]
+#[derive(Clone, Copy)]
 pub enum Turn {
     Nothing,
     Idle,
@@ -15,7 +15,7 @@ pub enum Turn {
 }
 
 // What an inspection answers: what was served, the port, the byte handed to the transmitter if any, and whether an interrupt was raised.
-#[derive(Drop)]
+#[derive(Clone, Copy)]
 pub struct Answer {
     pub turn: Turn,
     pub port: u32,
@@ -25,7 +25,7 @@ pub struct Answer {
 }
 
 // What a call answers: the refusal number or 0; the word of DIA and DIAS; an inspection's answer; the inspections that a sweep made and the list places that it used. What a call has not is 0 or "nothing".
-#[derive(Drop)]
+#[derive(Clone, Copy)]
 pub struct Reply {
     pub code: u8,
     pub value: u16,
@@ -35,7 +35,7 @@ pub struct Reply {
 }
 
 // The reply and the record after the call.
-#[derive(Drop)]
+#[derive(Clone, Copy)]
 pub struct Replied {
     pub reply: Reply,
     pub mux: Mux,

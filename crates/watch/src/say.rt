@@ -47,7 +47,7 @@ pub fn say_bytes(mem: &[u16], before: u16, last: u16)
 }
 
 // What port p's block holds before an inspection: OCW and IBP.
-#[derive(Drop)]
+#[derive(Clone, Copy)]
 pub struct Before {
     pub ocw: u16,
     pub ibp: u16,

@@ -4,7 +4,7 @@ ghost use Rattle.ground.specs.Choose.{bit, Below};
 ghost use Rattle.words.specs.Field.{Whole, get, put};
 
 // The weight of the field's last bit, and how many values the field can have.
-#[derive(Drop)]
+#[derive(Clone, Copy)]
 pub struct Field {
     pub unit: u16,
     pub span: u16,
