@@ -1,5 +1,6 @@
 // The record of the unit, by value, what calls answer, and the refusals that every call asks for first.
 #![tactic(auto)]
+
 pub mod effect;
 pub mod mux;
 pub mod refusal;

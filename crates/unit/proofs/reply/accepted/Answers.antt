@@ -1,0 +1,6 @@
+-- `unit::reply::accepted` meets its contract, by what its parts ensure.
+use borrow.Author.Rules.{rules}
+use Rattle.unit.proofs.reply.accepted.Goals as goal
+
+pub returns : goal.returns
+returns c = rw c.nothing.ensures

@@ -1,0 +1,6 @@
+-- `unit::setup::fresh` meets its contract, by what its parts ensure.
+use borrow.Author.Rules.{rules}
+use Rattle.unit.proofs.setup.fresh.Goals as goal
+
+pub returns : goal.returns
+returns c = rw (c.fresh_port.ensures, c.fresh.ensures)
