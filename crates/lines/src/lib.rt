@@ -1,5 +1,6 @@
 // What the lines do: a character arrives, a transmitter runs empty, a Device Status line changes. One call for all three, for they are refused alike.
 #![tactic(auto)]
+
 pub mod signal;
 
 ghost use Rattle.std.specs.Prelude.{◌≡◌};

@@ -1,5 +1,6 @@
 // What the processor does: reset, IOPLS, START, DOC, DOB, DIA, DIAS, and the 10 ms tick. One call for all of them, for they are refused alike.
 #![tactic(auto)]
+
 pub mod orders;
 
 ghost use Rattle.std.specs.Prelude.{◌≡◌, map};

@@ -1,0 +1,6 @@
+-- `lines::arrived_port` meets its contract, by what `cut` ensures.
+use borrow.Author.Rules.{rules}
+use Rattle.lines.proofs.arrived_port.Goals as goal
+
+pub returns : goal.returns
+returns c = rw c.cut.ensures
