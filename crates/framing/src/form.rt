@@ -4,7 +4,7 @@ ghost use Rattle.ground.specs.Choose.{Below};
 ghost use Rattle.framing.specs.Form.{data_bits, has_parity, stop_cells, first_stop, frame_cells};
 
 // The number of data bits.
-#[derive(Drop)]
+#[derive(Clone, Copy)]
 pub enum DataBits {
     Five,
     Six,
@@ -13,7 +13,7 @@ pub enum DataBits {
 }
 
 // The parity bit: none, or one that makes the ones odd or even.
-#[derive(Drop)]
+#[derive(Clone, Copy)]
 pub enum Parity {
     Inhibited,
     Odd,
@@ -21,7 +21,7 @@ pub enum Parity {
 }
 
 // The stop, in bauds.
-#[derive(Drop)]
+#[derive(Clone, Copy)]
 pub enum Stops {
     One,
     OneAndHalf,
@@ -29,7 +29,7 @@ pub enum Stops {
 }
 
 // What a frame is made by, whatever machine asks for it.
-#[derive(Drop)]
+#[derive(Clone, Copy)]
 pub struct Form {
     pub bits: DataBits,
     pub parity: Parity,

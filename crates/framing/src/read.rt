@@ -14,7 +14,7 @@ pub const TOO_SHORT: u8 = 19;
 pub const NO_FRAME: u8 = 20;
 
 // The refusal number or 0; then the character and its two marks, and how many cells the frame has. Beside a refusal they are 0.
-#[derive(Drop)]
+#[derive(Clone, Copy)]
 pub struct Frame {
     pub code: u8,
     pub c: u8,

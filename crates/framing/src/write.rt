@@ -11,7 +11,7 @@ use crate::form::{Form, frame_cells};
 pub const NO_ROOM: u8 = 18;
 
 // The refusal number or 0, and how many cells were written.
-#[derive(Drop)]
+#[derive(Clone, Copy)]
 pub struct Written {
     pub code: u8,
     pub used: u32,
