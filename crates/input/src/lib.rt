@@ -1,5 +1,6 @@
 // The input service of a port: the words read first, a plan, and the stores in document 01's order.
 #![tactic(auto)]
+
 pub mod icw;
 pub mod plan;
 pub mod steps;

@@ -1,5 +1,6 @@
 // The output service of a port: the words read first, a plan, and the stores in document 01's order.
 #![tactic(auto)]
+
 pub mod modes;
 pub mod ocw;
 pub mod plan;
