@@ -1,5 +1,6 @@
 // One inspection: the turn of the port at the scan position, and the position moved on.
 #![tactic(auto)]
+
 pub mod turn;
 
 ghost use Rattle.std.specs.Prelude.{◌≡◌, length};
