@@ -1,5 +1,6 @@
 // A sweep: inspections one after the other, the bytes handed over gathered in a lent list.
 #![tactic(auto)]
+
 ghost use Rattle.std.specs.Prelude.{◌≡◌, ◌-◌, ◌<◌, ◌≤◌, length};
 ghost use Rattle.ground.specs.Choose.{pick};
 ghost use Rattle.unit.specs.Reply.{outcome};
