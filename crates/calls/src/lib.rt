@@ -1,5 +1,6 @@
 // Everything that document 01 lets an emulator ask of the unit: one type of calls, one step. By value; the door above lends the record.
 #![tactic(auto)]
+
 pub mod call;
 
 ghost use Rattle.std.specs.Prelude.{◌≡◌};

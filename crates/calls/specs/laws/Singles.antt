@@ -128,9 +128,9 @@ run_singles_lem w (e ∷ es) =
 pub singles_single : (w : World) (xs : List Single) → singles w (map single xs) ≡ xs
 unfolding singles singles_of singles_in single
 singles_single w [] = refl
-singles_single w (sets_up s ∷ xs) = ap (λ l. sets_up s ∷ l) (singles_single _ xs)
-singles_single w (does a ∷ xs) = ap (λ l. does a ∷ l) (singles_single _ xs)
-singles_single w (writes m ∷ xs) = ap (λ l. writes m ∷ l) (singles_single _ xs)
+singles_single w (sets_up s ∷ xs) = ap (λ l. sets_up s ∷ l) (singles_single (happens w (single (sets_up s))) xs)
+singles_single w (does a ∷ xs) = ap (λ l. does a ∷ l) (singles_single (happens w (single (does a))) xs)
+singles_single w (writes m ∷ xs) = ap (λ l. writes m ∷ l) (singles_single (happens w (single (writes m))) xs)
 
 -- a host write puts in its words, leaves the record and answers nothing
 pub write_is : (w : World) (m : List ℕ) → result w (writes m) ≡ record { reply = record { code = 0; value = 0; answer = nothing; made = 0; used = 0 }; world = world w.mux m }
