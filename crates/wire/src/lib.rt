@@ -1,5 +1,6 @@
 // From the wire into the unit: what a read frame gives is what an arrival takes (document 02, K3).
 #![tactic(auto)]
+
 ghost use Rattle.std.specs.Prelude.{◌≡◌};
 ghost use Rattle.wire.specs.Wire.{arrival_of};
 
