@@ -1,6 +1,9 @@
 // The line of a session's text, read byte by byte.
-ghost use Rattle.std.specs.Prelude.{◌≡◌, ◌<◌};
+ghost use Rattle.std.specs.Prelude.{◌≡◌, ◌<◌, ◌≤◌, length, take};
+ghost use Rattle.std.specs.Io.KnownBytes.{Consumes};
 ghost use Rattle.driver.specs.Text.{blank, is_digit, appended, extended, ended, typed};
+
+use std::io::Read;
 
 // The numbers of the line that have ended, how many they are, and the number that is being read.
 #[derive(Clone, Copy)]
@@ -69,4 +72,23 @@ pub fn typed(l: Line, b: u8) -> Line
         return extended(l, b);
     }
     ended(l)
+}
+
+// Reads once from the reader into buf: how many bytes came, 0 at the end of the text and where reading failed.
+pub fn received<R: Read>(reader: &mut R, buf: &mut [u8]) -> usize
+    ensures within { result ≤ length buf.new }
+    ensures bytes { Consumes (R.remaining reader.old) (R.remaining reader.new) (take result buf.new) }
+{
+    match reader.read(buf) {
+        Ok(n) => n,
+        Err(_) => 0,
+    }
+}
+
+// Reads once from the standard input into buf what is there, as a typed line: how many bytes came, 0 at the end of the text and where reading failed.
+pub fn taken(rt: &impl Input, buf: &mut [u8]) -> usize
+    ensures { result ≤ length buf.new }
+{
+    let mut reader = rt.reader();
+    received(&mut reader, buf)
 }
