@@ -1,5 +1,6 @@
 // For caretakers: type a block size, a number of ports and a base on a line, and an m for a Mighty Mux, and see what setup says of them and what to type instead.
 #![tactic(auto)]
+
 mod advice;
 mod say;
 mod typed;
@@ -12,6 +13,7 @@ ghost use Rattle.settings.specs.Answer.{taken, read_on, shut};
 
 use crate::say::{answered, say};
 use crate::typed::{Line, blank, started, typed};
+use driver::read;
 
 // What is kept between two reads: whether there is more to read, and the line so far.
 #[derive(Clone, Copy)]
@@ -45,23 +47,22 @@ fn take(t: Line, text: &[u8]) -> Line
 }
 
 // Reads once and takes what came. Keeping the loop out of it lets the buffer be its own.
-fn turn(r: Reader) -> Reader
+fn turn(rt: &impl Input, r: Reader) -> Reader
     ensures { Turned read_on shut r result }
 {
     let mut q = r;
     let mut buf = io::buffer();
-    let got = libc::read(0, &mut buf);
-    if got <= 0 {
+    let n = read::taken(rt, &mut buf);
+    if n == 0 {
         q.going = false;
         return q;
     }
-    let n = io::count(got, &buf);
     q.line = take(r.line, &buf[..n]);
     q
 }
 
 // All that is typed; the line at its end. The turns are counted down, from a number that no run uses up, since nothing says that the input ends.
-fn read_all() -> Line
+fn read_all(rt: &impl Input) -> Line
     ensures { Heard taken blank result }
 {
     let mut r = Reader {
@@ -70,15 +71,15 @@ fn read_all() -> Line
     };
     let mut turns = u64::MAX;
     while turns > 0 && r.going {
-        r = turn(r);
+        r = turn(rt, r);
         turns -= 1;
     }
     r.line
 }
 
 // A last line that has no end is answered too.
-fn main() {
-    let line = read_all();
+fn main(rt: HostRuntime) {
+    let line = read_all(&rt);
     if started(line) {
         say(answered(line));
     }

@@ -1,0 +1,12 @@
+-- `settings::take` meets its contract. The loop's invariant: so many bytes of the text are taken.
+use Prim.Native.Nat.{◌-◌}
+use lib.ListN.{length}
+use Rattle.driver.specs.laws.Folds.{Folding}
+use Rattle.settings.specs.Answer.{taken}
+use Rattle.settings.proofs.take.Given as goal
+
+abbrev pub invariant-loop-i : goal.invariant-loop-i
+invariant-loop-i l = Folding taken l.text l.initial.line l.line l.i
+
+abbrev pub decreases-loop-i : goal.decreases-loop-i
+decreases-loop-i l = length l.text - l.i

@@ -1,0 +1,13 @@
+-- `settings::take_byte` meets its contract, in each arm.
+use borrow.Author.Tests.{eq-eqb, ne_eqb}
+use Rattle.ground.specs.Choose.{pick}
+use Rattle.settings.specs.Answer.{taken}
+use Rattle.settings.proofs.take_byte.Goals as goal
+
+pub returns-then-b-eq10 : goal.returns-then-b-eq10
+unfolding taken pick
+returns-then-b-eq10 c = rw (eq-eqb _ _ c.if-b-eq10.true) c.blank.ensures
+
+pub returns : goal.returns
+unfolding taken pick
+returns c = rw (ne_eqb _ _ c.if-b-eq10.false) c.typed.ensures
