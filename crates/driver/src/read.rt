@@ -1,9 +1,9 @@
 // The line of a session's text, read byte by byte.
-ghost use Rattle.std.specs.Prelude.{◌≡◌, ◌<◌, ◌≤◌, length, take};
+ghost use Rattle.std.specs.Prelude.{◌≡◌, ◌<◌, ◌≤◌, length, take, MatchResult};
 ghost use Rattle.std.specs.Io.KnownBytes.{Consumes};
 ghost use Rattle.driver.specs.Text.{blank, is_digit, appended, extended, ended, typed};
 
-use std::io::Read;
+use std::io::{Read, Result};
 
 // The numbers of the line that have ended, how many they are, and the number that is being read.
 #[derive(Clone, Copy)]
@@ -74,15 +74,22 @@ pub fn typed(l: Line, b: u8) -> Line
     ended(l)
 }
 
+// How many bytes a read gave: 0 where it failed, as at the end of the text.
+pub fn count(got: Result<usize>) -> usize
+    ensures { MatchResult got (λ n. result ≡ n) (λ _. result ≡ 0) }
+{
+    match got {
+        Ok(n) => n,
+        Err(_) => 0,
+    }
+}
+
 // Reads once from the reader into buf: how many bytes came, 0 at the end of the text and where reading failed.
 pub fn received<R: Read>(reader: &mut R, buf: &mut [u8]) -> usize
     ensures within { result ≤ length buf.new }
     ensures bytes { Consumes (R.remaining reader.old) (R.remaining reader.new) (take result buf.new) }
 {
-    match reader.read(buf) {
-        Ok(n) => n,
-        Err(_) => 0,
-    }
+    count(reader.read(buf))
 }
 
 // Reads once from the standard input into buf what is there, as a typed line: how many bytes came, 0 at the end of the text and where reading failed.
