@@ -1,5 +1,6 @@
 // For the hobbyist: type data bits, parity, stop cells and a character on a line, and see the character's frame as a picture of the line.
 #![tactic(auto)]
+
 mod asked;
 mod draw;
 mod say;
@@ -11,6 +12,7 @@ ghost use Rattle.picture.specs.Typing.{nothing, taken, read_on, shut};
 
 use crate::asked::asked_for;
 use crate::say::say;
+use driver::read;
 use driver::read::{Line, blank, typed};
 
 // What is typed of a line: whether there is anything, and its numbers.
@@ -66,24 +68,23 @@ fn take(t: Typing, text: &[u8]) -> Typing
 }
 
 // Reads once and takes what came. Keeping the loop out of it lets the buffer be its own.
-fn turn(r: Reader) -> Reader
+fn turn(rt: &impl Input, r: Reader) -> Reader
     ensures { Turned read_on shut r result }
 {
     let mut q = r;
     let mut buf = io::buffer();
-    let got = libc::read(0, &mut buf);
-    if got <= 0 {
+    let n = read::taken(rt, &mut buf);
+    if n == 0 {
         q.going = false;
         return q;
     }
-    let n = io::count(got, &buf);
     let t = r.typing;
     q.typing = take(t, &buf[..n]);
     q
 }
 
 // All that is typed; the line at its end. The turns are counted down, from a number that no run uses up, since nothing says that the input ends.
-fn read_all() -> Typing
+fn read_all(rt: &impl Input) -> Typing
     ensures { Heard taken nothing result }
 {
     let mut r = Reader {
@@ -92,15 +93,15 @@ fn read_all() -> Typing
     };
     let mut turns = u64::MAX;
     while turns > 0 && r.going {
-        r = turn(r);
+        r = turn(rt, r);
         turns -= 1;
     }
     r.typing
 }
 
 // A last line that has no end is answered too.
-fn main() {
-    let t = read_all();
+fn main(rt: HostRuntime) {
+    let t = read_all(&rt);
     if t.begun {
         say(asked_for(typed(t.line, 10)));
     }
