@@ -1,5 +1,6 @@
 // The proved code, compared with the second program: reads the text of sessions (tests/second/FORMAT.md) on standard input, makes each call and prints the lines that the text asks for.
 #![tactic(auto)]
+
 mod frames;
 
 ghost use Rattle.std.specs.Prelude.{◌≡◌, take};
@@ -22,6 +23,7 @@ use calls::call::{Act, Call, What, asking, setting_up};
 use driver::digest::{number, of_record, of_window, of_words};
 use driver::host::{fill, fill_cells, lent, put_bytes, set_all, write};
 use driver::poke::{kind_of, poked, poked_place, poked_port, poked_special};
+use driver::read;
 use driver::read::{Line, blank, typed};
 use driver::say::{Said, and, nothing, print};
 use framing::form::Form;
@@ -585,32 +587,31 @@ fn take(d: Desk, text: &[u8], mem: &mut [u16], list: &mut [u16]) -> Desk
 }
 
 // Reads once and takes what came. Keeping the loop out of it lets the buffer be its own.
-fn turn(d: Desk, mem: &mut [u16], list: &mut [u16]) -> Desk
+fn turn(rt: &impl Input, d: Desk, mem: &mut [u16], list: &mut [u16]) -> Desk
     ensures { Turned played shut (kept d mem.old list.old) (kept result mem.new list.new) }
 {
     let mut buf = io::large_buffer();
-    let got = libc::read(0, &mut buf);
-    if got <= 0 {
+    let n = read::taken(rt, &mut buf);
+    if n == 0 {
         return closed(d);
     }
-    let n = io::count(got, &buf);
     take(d, &buf[..n], mem, list)
 }
 
 // A proved loop has to end, and nothing says that the input does. So the loop counts its turns down, from a number that no run uses up.
-fn drive(mem: &mut [u16], list: &mut [u16])
+fn drive(rt: &impl Input, mem: &mut [u16], list: &mut [u16])
     ensures { Driven mem.old list.old mem.new list.new }
 {
     let mut d = new_desk();
     let mut turns = u64::MAX;
     while turns > 0 && d.going {
-        d = turn(d, mem, list);
+        d = turn(rt, d, mem, list);
         turns -= 1;
     }
 }
 
-fn main() {
+fn main(rt: HostRuntime) {
     let mut mem = [0u16; 40000];
     let mut list = [0u16; 4200];
-    drive(&mut mem, &mut list);
+    drive(&rt, &mut mem, &mut list);
 }

@@ -1,0 +1,6 @@
+-- `compared::made` meets its contract: the record of the setup.
+use borrow.Author.Rules.{rules}
+use Rattle.compared.proofs.made.Goals as goal
+
+pub returns : goal.returns
+returns c = rw c.setup-r.ensures
