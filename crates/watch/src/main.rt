@@ -1,6 +1,7 @@
 // A session that a person can watch: three ports, a name with a glottal stop typed at the first, and in plain words what each inspection does; at a unit of the 1974 set of special codes, and at one
 // whose school chose to have the glottal stop ordinary. Then a short one at a Mighty Mux, whose interrupts wait in its stack.
 #![tactic(auto)]
+
 mod host;
 mod say;
 
