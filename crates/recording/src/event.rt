@@ -5,7 +5,7 @@ ghost use Rattle.recording.specs.Event.{no_event, numbers_fit, none_marked, even
 use crate::layout::{Layout, known, layout_of, most};
 
 // The tag, the four numbers of its data in the table's order, and the special set. What the tag does not use is 0.
-#[derive(Drop)]
+#[derive(Clone, Copy)]
 pub struct Event {
     pub tag: u8,
     pub first: u32,

@@ -4,7 +4,7 @@ ghost use Rattle.ground.specs.Choose.{Below};
 ghost use Rattle.recording.specs.Layout.{width_of, size, most, known, layout_of, numbers_length, data_length, field_length};
 
 // How many bytes a part takes.
-#[derive(Drop)]
+#[derive(Clone, Copy)]
 pub enum Width {
     Zero,
     One,
@@ -13,7 +13,7 @@ pub enum Width {
 }
 
 // What may stand in a part: nothing, a yes or no, a kind of unit, a byte, a word's address, a word, any number.
-#[derive(Drop)]
+#[derive(Clone, Copy)]
 pub enum Part {
     Unused,
     YesNo,
@@ -25,7 +25,7 @@ pub enum Part {
 }
 
 // The parts of a tag's data in their order, and whether the special set follows them.
-#[derive(Drop)]
+#[derive(Clone, Copy)]
 pub struct Layout {
     pub first: Part,
     pub second: Part,

@@ -9,7 +9,7 @@ use crate::reading::Done;
 use std::num::wrapping_add_usize;
 
 // How far a pass has come: whether it puts, what is at fault and where, the offset, and how many bytes are lent.
-#[derive(Drop)]
+#[derive(Clone, Copy)]
 pub struct Pass {
     pub puts: bool,
     pub code: u8,

@@ -10,7 +10,7 @@ use crate::field::{event_in, field_code, tag_in};
 use crate::layout::field_length;
 
 // The refusal number or 0, the offset of the tag at fault, and how much was written.
-#[derive(Drop)]
+#[derive(Clone, Copy)]
 pub struct Done {
     pub code: u8,
     pub at: usize,
@@ -18,7 +18,7 @@ pub struct Done {
 }
 
 // An event, and the offset after its field.
-#[derive(Drop)]
+#[derive(Clone, Copy)]
 pub struct One {
     pub event: Event,
     pub next: usize,
