@@ -8,7 +8,7 @@
 --   ended                  the answer when no byte follows
 -- Not here: one field, and the reading of the whole, in recording; that the two readings are one, in laws/Whole.
 -- Assumes nothing.
-use Rattle.std.specs.Prelude.{ℕ, ◌+◌, ◌%◌, ◌^◌, Bool, ◌&&◌, List, [], ◌∷◌, take, set, replicate, ◌==◌, nat_lt, slice_set}
+use Rattle.std.specs.Prelude.{ℕ, ◌+◌, ◌%◌, ◌^◌, Bool, ◌&&◌, List, [], ◌∷◌, take, replicate, ◌==◌, nat_lt, slice_set}
 use Rattle.ground.specs.Choose.{pick}
 use Rattle.recording.specs.declared.event.Event.{Event}
 use Rattle.recording.specs.declared.reading.Done.{Done}

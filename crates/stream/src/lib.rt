@@ -1,5 +1,6 @@
 // A recording that comes in parts, read byte by byte (document 02, K8).
 #![tactic(auto)]
+
 ghost use Rattle.std.specs.Prelude.{◌≡◌, ◌≤◌};
 ghost use Rattle.stream.specs.Stream.{begun, counted, judged, opened, grown, took, ready, event, ended};
 
@@ -10,7 +11,7 @@ use std::num::wrapping_add_usize;
 
 // The bytes of the field that is being read, and how many they are; what is at fault in them so far (15: more must come; 0: the field is whole); the offset
 // of its tag; and how many fields were whole.
-#[derive(Drop)]
+#[derive(Clone, Copy)]
 pub struct Stream {
     pub field: [u8; 144],
     pub fill: usize,
