@@ -1,4 +1,0 @@
--- What the walks over lists of events share.
-pub mod Steps
-pub mod Folds
-pub mod Eights
