@@ -4,8 +4,7 @@
 pub mod reader;
 pub mod writer;
 
-ghost use mathlib.Core.Path.{◌≡◌};
-ghost use Prim.Native.Nat.{min};
+ghost use Rattle.std.specs.Prelude.{◌≡◌, min};
 
 // How many of eight places are lent.
 pub fn at_most_eight(n: usize) -> usize

@@ -1,7 +1,5 @@
 // Reading bytes into a lent list of events.
-ghost use mathlib.Core.Path.{◌≡◌};
-ghost use mathlib.Core.List.{◌++◌};
-ghost use lib.ListN.{take, drop};
+ghost use Rattle.std.specs.Prelude.{◌≡◌, ◌++◌, take, drop};
 ghost use Rattle.recording.specs.Scan.{reading, read};
 
 use crate::at_most_eight;

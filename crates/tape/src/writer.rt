@@ -1,6 +1,5 @@
 // Writing a list of events into lent bytes.
-ghost use mathlib.Core.Path.{◌≡◌};
-ghost use lib.ListN.{take};
+ghost use Rattle.std.specs.Prelude.{◌≡◌, take};
 ghost use Rattle.ground.specs.Machine.{run};
 ghost use Rattle.recording.specs.Pass.{kept, passed, wrote, write};
 

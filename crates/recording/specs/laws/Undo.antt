@@ -10,9 +10,9 @@
 use Rattle.std.specs.Prelude.{◌≡◌, ℕ, zero, suc, ◌+◌, ◌*◌, ◌/◌, ◌%◌, ◌<◌, ◌≤◌, Bool, true, false, ◌&&◌, ◌||◌, leb, List, [], ◌∷◌, ◌++◌, length, get_or, drop, replicate, ◌==◌, nat_eq, nat_le, slice_index, slice_index_or, refl}
 use Rattle.std.proofs.Common.{sym, ◌∙◌, true≢false, le_of_suc-le-suc, not-suc-le-zero, arith, length-append, drop-drop}
 use Rattle.std.proofs.Math.Path.{ap}
-use mathlib.Core.List.{append_assoc}
+use Rattle.std.proofs.Common.{append_assoc}
 use Rattle.std.proofs.Math.ListN.{length-drop, get_or-append}
-use borrow.Author.Tests.{leb-true, le-leb}
+use Rattle.std.proofs.Common.{leb-true, le-leb}
 use Rattle.ground.specs.Choose.{bit}
 use Rattle.ground.specs.Tab.{tab}
 use Rattle.ground.specs.laws.Rows.{and-true}

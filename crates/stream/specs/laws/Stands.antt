@@ -10,7 +10,7 @@
 use Rattle.std.specs.Prelude.{◌≡◌, ℕ, zero, suc, ◌+◌, ◌-◌, ◌%◌, ◌^◌, ◌<◌, ◌≤◌, Bool, true, false, ◌&&◌, List, [], ◌∷◌, ◌++◌, length, take, drop, ◌==◌, ◌≢◌, nat_lt, slice_set}
 use Rattle.std.proofs.Math.Path.{refl, sym, ap, subst}
 use Rattle.std.proofs.Common.{◌∙◌, add-zero, add-one, arith, length-append, length-set, take-append-drop, length-take-le, take-suc-set, drop-drop, drop_at, eqb-true, eq-eqb, ne_eqb, lt-ltb}
-use mathlib.Core.List.{append-nil}
+use Rattle.std.proofs.Common.{append-nil}
 use Rattle.std.proofs.Math.Nat.{mod-eq_of_lt}
 use Rattle.std.proofs.Math.ListN.{length-drop, get_or-append}
 use Rattle.std.proofs.Math.Seq.{append_snoc}

@@ -1,7 +1,7 @@
 -- `recording::event::none_marked` meets its contract. The loop's invariant: none so far, and none of those that are left, is none at all.
 use Rattle.std.proofs.Common.{◌≡◌, ℕ, ◌+◌, ◌<◌, Bool, false, not, ◌&&◌, List, length, get_or, drop, sym, refl, ap, ◌∙◌, arith, rules}
-use mathlib.Core.Bool.{and_assoc, and-true}
-use lib.Seq.{drop-length}
+use Rattle.std.proofs.Math.Bool.{and_assoc, and-true}
+use Rattle.std.proofs.Math.Seq.{drop-length}
 use Rattle.recording.specs.Event.{none_marked}
 use Rattle.recording.specs.laws.Marks.{none_on}
 use Rattle.recording.proofs.event.none_marked.Goals as goal

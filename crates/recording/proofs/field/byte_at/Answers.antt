@@ -1,6 +1,6 @@
 -- `recording::field::byte_at` meets its contract: a byte, or 0 past the end.
 use Rattle.std.proofs.Common.{sym, arith}
-use lib.ListN.{get_or-eq_default}
+use Rattle.std.proofs.Math.ListN.{get_or-eq_default}
 use Rattle.recording.proofs.field.byte_at.Goals as goal
 
 pub returns : goal.returns

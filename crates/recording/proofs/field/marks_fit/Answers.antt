@@ -1,6 +1,6 @@
 -- `recording::field::marks_fit` meets its contract. The loop's invariant: all so far fit, and those that are left, is all of them.
 use Rattle.std.proofs.Common.{◌≡◌, ℕ, ◌+◌, ◌-◌, Bool, ◌&&◌, leb, get_or, drop, sym, ap, ◌∙◌, add-zero, arith, rules}
-use mathlib.Core.Bool.{and_assoc, and-true}
+use Rattle.std.proofs.Math.Bool.{and_assoc, and-true}
 use Rattle.recording.specs.Field.{marks}
 use Rattle.recording.specs.laws.Marks.{marks_on}
 use Rattle.recording.proofs.field.marks_fit.Goals as goal

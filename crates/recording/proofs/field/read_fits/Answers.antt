@@ -1,6 +1,6 @@
 -- `recording::field::read_fits` meets its contract: the numbers, and the set where there is one.
 use Rattle.std.proofs.Common.{sym, refl}
-use mathlib.Core.Bool.{and-true}
+use Rattle.std.proofs.Math.Bool.{and-true}
 use Rattle.recording.specs.Field.{read_fits}
 use Rattle.recording.specs.laws.Parts.{past-numbers}
 use Rattle.recording.proofs.field.read_fits.Goals as goal

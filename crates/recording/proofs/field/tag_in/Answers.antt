@@ -1,6 +1,6 @@
 -- `recording::field::tag_in` meets its contract: the first byte, or 0 where there is none.
 use Rattle.std.proofs.Common.{sym, arith}
-use lib.ListN.{get_or-eq_default}
+use Rattle.std.proofs.Math.ListN.{get_or-eq_default}
 use Rattle.recording.proofs.field.tag_in.Goals as goal
 
 pub returns : goal.returns

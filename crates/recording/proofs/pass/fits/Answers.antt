@@ -1,6 +1,6 @@
 -- `recording::pass::fits` meets its contract: the sum is not made.
 use Rattle.std.proofs.Common.{◌+◌, sym, arith}
-use borrow.Author.Tests.{lt-leb}
+use Rattle.std.proofs.lemmas.Bool.{lt-leb}
 use Rattle.recording.specs.laws.Steps.{sub_leb}
 use Rattle.recording.proofs.pass.fits.Goals as goal
 
