@@ -1,11 +1,3 @@
--- Demand 3, proved. Nothing here need be believed.
---   View     what one single thing does to a port: the one case analysis
---   Tests    the tests of single things are true where the demand's words hold, and nowhere else
---   Balance  every character taken is served, replaced, dropped or held, and counted once
---   Proof    the whole statement
---   Tight    the bounds are real: examples, and two corollaries
-pub mod View
-pub mod Tests
-pub mod Balance
-pub mod Proof
+-- What demand 3's words mean, by examples. Nothing here need be believed. The demand is proved in proofs/laws.
+--   Tight    the bounds are real and no wider than they must be
 pub mod Tight

@@ -1,11 +1,10 @@
--- The bounds are real and no wider than they must be, and the words mean what they say: examples, and two corollaries.
+-- The bounds are real and no wider than they must be, and the words mean what they say: examples.
 --   echoing, typing             a port whose own echo fills its transmitter; one whose input is served first and its output then
 --   Real, real                  both bounds are reached, and the exception of the second is real
---   exactly-P, exactly_k_p       the bounds themselves are enough: P inspections, and (k+1)·P
 --   over_at_once                a wait that the first of a list makes over
 --   held_down .. key_held_down   a key held down: a character that one of the same code and marks replaced is not broken off by a stop that comes later
 --   idle_line, idle_line_lem         an idle line: once its output was served, a stop that comes later breaks no wait
--- Not here: what each of the four inspections served, in calls, Examples.
+-- Not here: the bounds themselves, in Enough of proofs/laws; what each of the four inspections served, in calls, Examples.
 -- Assumes nothing.
 use Rattle.std.specs.Prelude.{◌≡◌, refl, Bool, true, false, List, [], ◌∷◌, ◌++◌, ◌⊎◌, ℕ, ◌+◌, ◌*◌, ◌≤◌, ◌<◌, get_or, replicate, set}
 use Rattle.std.proofs.Common.{sym, ◌∙◌, ap, true≢false, arith}
@@ -23,7 +22,6 @@ use Rattle.calls.specs.Examples.{unit_after, look, typed, clear, filling, waitin
 use Rattle.calls.specs.laws.Examples.{everything}
 use Rattle.waiting.specs.Counting.{service_at, output_at, unrefused, is_arrival, brings_to, takes_at}
 use Rattle.waiting.specs.Waiting.{P, Running, Holds, Empty, Since, Takes, Stops, inspections, inputs, outputs, taken, Served, Replaced, Broken, OutputServed, Echoed, OutputBroken}
-use Rattle.waiting.specs.laws.Proof.{demand}
 
 -- one port, its input automatic with echo, its buffer not near the end; its transmitter is empty, and a character has arrived
 abbrev pub echoing : World
@@ -54,23 +52,6 @@ pub record Real : Type 0 where
 pub real : Real
 unfolding everything service_at
 real = record { counted = refl; third = refl; fourth = refl; fifth = refl; first_in = refl; not_yet = refl; then = refl; empty = refl; both = refl; one = refl; full = refl; none = refl }
-
--- ---- the bounds themselves are enough
-
--- exactly P inspections
-pub exactly-P :
-    (v : World) (p : ℕ) (a : Single) (xs : List Single) → Since v → Running v → Takes p v a →
-    let w = after v a in let c = (port_at w.mux p).ch in
-    (Broken p c w xs → ⊥) → inspections w xs ≡ P w →
-    Served p c w xs ⊎ Replaced p c w xs
-exactly-P v p a xs s r t calm e = demand.first_bound v p a xs s r t calm (omega (arith, e))
-
--- exactly (k+1)·P
-pub exactly_k_p :
-    (w : World) (p k : ℕ) (xs : List Single) → Running w → p < P w → Empty p w →
-    inputs p w xs ≤ k → (Echoed p w xs → ⊥) → (OutputBroken p w xs → ⊥) → inspections w xs ≡ (k + 1) * P w →
-    OutputServed p w xs
-exactly_k_p w p k xs r b e few quiet calm n = (demand.second_bound w p k xs r b e few quiet calm (omega (arith, n))).0
 
 -- ---- a wait that is over at once
 

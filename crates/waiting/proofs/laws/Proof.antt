@@ -30,9 +30,9 @@ use Rattle.calls.specs.laws.Places.{setup_places, keeps_places}
 use Rattle.door.specs.laws.Door.{made_run}
 use Rattle.waiting.specs.Counting.{turn_at, service_at, input_at, output_at, takes_at, holds_at}
 use Rattle.waiting.specs.Waiting.{P, Running, Holds, Empty, Takes, Arrived, ServiceTurn, Stops, inspections, inputs, While, Ended, Lasts, WithinP, InputServed, Replacement, Served, Replaced, Fate, HeldCharacter, FirstBound, WithinKP, Echo, OutputServed, OutputFate, EmptyTransmitter, SecondBound, Rotation, Places, Demand}
-use Rattle.waiting.specs.laws.View.{Stays, Leaves, leaves_same, Tested, View, turn, arrives, clear, stop, quiet, view, turn_moves}
-use Rattle.waiting.specs.laws.Tests.{counts_names, tests, arriving}
-use Rattle.waiting.specs.laws.Balance.{uncounted, elsewhere, own_left, keeps_place, balance, not_again}
+use Rattle.waiting.proofs.laws.View.{Stays, Leaves, leaves_same, Tested, View, turn, arrives, clear, stop, quiet, view, turn_moves}
+use Rattle.waiting.proofs.laws.Tests.{counts_names, tests, arriving}
+use Rattle.waiting.proofs.laws.Balance.{uncounted, elsewhere, own_left, keeps_place, balance, not_again}
 
 -- the scan position of a world
 abbrev at : World → ℕ

@@ -33,7 +33,7 @@ use Rattle.calls.specs.declared.call.Act.TheVariants.{Processor}
 use Rattle.calls.specs.Events.{Single, does, result, after, counted}
 use Rattle.waiting.specs.Counting.{turn_at, service_at, unrefused, is_arrival, is_clear, takes_at, holds_at, replaces_at, drops_at}
 use Rattle.waiting.specs.Waiting.{Running, Takes, ServiceTurn, Stops, Counts, Clears, reset, setup, Breaks, clears, Tests, Arrivals}
-use Rattle.waiting.specs.laws.View.{View, turn, arrives, clear, quiet, takes_line, view, turn_moves}
+use Rattle.waiting.proofs.laws.View.{View, turn, arrives, clear, quiet, takes_line, view, turn_moves}
 
 -- both of two tests
 both : (x y : Bool) → x && y ≡ true → (x ≡ true) × (y ≡ true)

@@ -32,7 +32,7 @@ use Rattle.calls.specs.Events.{Single, result, after, counted}
 use Rattle.calls.specs.laws.Places.{single_places}
 use Rattle.waiting.specs.Counting.{service_at, input_at, takes_at, holds_at, replaces_at, drops_at}
 use Rattle.waiting.specs.Waiting.{taken, inputs, NotAgain}
-use Rattle.waiting.specs.laws.View.{Tested, View, turn, arrives, clear, stop, quiet, view, turn_moves}
+use Rattle.waiting.proofs.laws.View.{Tested, View, turn, arrives, clear, stop, quiet, view, turn_moves}
 
 -- ---- a turn
 
