@@ -3,13 +3,11 @@
 --   Modes   the plan of each mode, by the mode's name
 --   Word    what the host reads of OCW after it was written
 --   Rules   the service by any rules for a buffer's end and a special code
---   Set     what the unit's set of special codes is to a service
 --   Ends    a buffer of automatic output ends
 --   Glottal the glottal stop that is sent: it stops an output, or it does not
 pub mod Kept
 pub mod Modes
 pub mod Word
 pub mod Rules
-pub mod Set
 pub mod Ends
 pub mod Glottal

@@ -21,7 +21,8 @@ use Rattle.unit.specs.Sound.{Sound}
 use Rattle.scan.specs.declared.turn.Turned.{Turned}
 use Rattle.scan.specs.Turn.{Turning, turning, turn}
 use Rattle.scan.specs.Scan.{moved, looked_at, scanned}
-use Rattle.scan.specs.laws.Scan.{sound_scans, turn_does, Moves, scan_moves, moves_sound}
+use Rattle.scan.specs.laws.Scan.{Moves, moves_sound}
+use Rattle.scan.proofs.laws.Scan.{sound_scans, turn_does, scan_moves}
 use Rattle.sweep.specs.Sweep.{Going, entered, going, sweep_from, set_out}
 use Rattle.sweep.specs.laws.Sweep.{look, one_more, runs_on, one_listed, sweep_end, sweep_stopped, sweep_raised, sweep_more}
 

@@ -1,7 +1,7 @@
 -- The 128 places of the array of ports: the type of the code's record has them, and here no call changes their number.
 --   single_places      a single thing leaves the array as long as it was, or it is a setup, which makes all 128
---   keeps_places       so whoever has the 128 places keeps them
 --   setup_places       and a setup that is not refused gives them
+-- In proofs/laws/Places, since they rest on these: keeps_places.
 -- Not here: what an array past its end answers, in unit, laws/Ports.
 -- Assumes nothing.
 use Rattle.std.specs.Prelude.{◌≡◌, refl, ◌⊎◌, length}
@@ -14,10 +14,10 @@ use Rattle.unit.specs.Record.{fresh_port}
 use Rattle.unit.specs.Reply.{World}
 use Rattle.unit.specs.Refusals.{refusal, of_setup}
 use Rattle.unit.specs.Sound.{AllPorts}
-use Rattle.unit.specs.laws.Replies.{setup_accepted, setup_refused}
-use Rattle.lines.specs.laws.Lines.{line_ports}
-use Rattle.processor.specs.laws.Processor.{order_ports}
-use Rattle.scan.specs.laws.Scan.{inspection_ports}
+use Rattle.unit.proofs.laws.Replies.{setup_accepted, setup_refused}
+use Rattle.lines.proofs.laws.Lines.{line_ports}
+use Rattle.processor.proofs.laws.Processor.{order_ports}
+use Rattle.scan.proofs.laws.Scan.{inspection_ports}
 use Rattle.calls.specs.declared.call.Act.TheVariants.{Line, Processor, Inspect}
 use Rattle.calls.specs.Calls.{set_up, performed}
 use Rattle.calls.specs.Events.{Single, sets_up, does, writes, result, after}
@@ -39,11 +39,3 @@ single_places w (does (Line p e)) = inl (line_ports w.mux p e)
 single_places w (does (Processor o)) = inl (order_ports w.mux o)
 single_places w (does Inspect) = inl (inspection_ports w.mux w.memory)
 single_places w (writes m) = inl refl
-
--- whoever has the 128 places keeps them
-pub keeps_places : (w : World) (a : Single) → AllPorts w.mux → AllPorts (after w a).mux
-keeps_places w a h = go (single_places w a)
-  where
-    go : (length (after w a).mux.port ≡ length w.mux.port) ⊎ AllPorts (after w a).mux → AllPorts (after w a).mux
-    go (inl e) = e ∙ h
-    go (inr e) = e

@@ -1,7 +1,7 @@
 -- The unit's set of special codes over calls (document 02, K5: "kept in the record").
 --   keeps_setting   every single thing but a setup that is not refused leaves the setting as it was, the set in it
 --   brings_setting  a setup that is not refused brings its own
---   set_since       so the set is that of the last setup that was not refused, however many calls and host writes came since
+-- In proofs/laws/Set, since they rest on these: set_since.
 -- Not here: that setup's own answer, the lines and the processor do not read it, in unit, laws/Set, and in the laws of lines and processor; what an inspection and
 -- a sweep make of it, in laws/Set of scan and sweep.
 -- Assumes nothing.
@@ -12,10 +12,10 @@ use Rattle.ground.specs.Machine.{run, Every}
 use Rattle.unit.specs.declared.mux.Setting.{Setting}
 use Rattle.unit.specs.Reply.{World}
 use Rattle.unit.specs.Refusals.{refusal, of_setup}
-use Rattle.unit.specs.laws.Replies.{setup_accepted, setup_refused}
-use Rattle.lines.specs.laws.Lines.{line_keeps}
+use Rattle.unit.proofs.laws.Replies.{setup_accepted, setup_refused}
+use Rattle.lines.proofs.laws.Lines.{line_keeps}
 use Rattle.processor.specs.laws.Processor.{order_setting}
-use Rattle.scan.specs.laws.Scan.{inspection_setting}
+use Rattle.scan.proofs.laws.Scan.{inspection_setting}
 use Rattle.calls.specs.declared.call.Act.TheVariants.{Line, Processor, Inspect}
 use Rattle.calls.specs.Calls.{set_up, performed}
 use Rattle.calls.specs.Events.{Single, NoSetup, sets_up, does, writes, result, after, run_singles}
@@ -31,12 +31,3 @@ keeps_setting w (writes m) h = refl
 pub brings_setting : (w : World) (s : Setting) → refusal (of_setup s) ≡ 0 → (after w (sets_up s)).mux.setting ≡ s
 unfolding result set_up pick
 brings_setting w s z = rw (setup_accepted s z)
-
--- over a list without a setup, but for refused ones
-run_setting : (w : World) (xs : List Single) → Every after (λ v a. NoSetup a) w xs → (run_singles w xs).mux.setting ≡ w.mux.setting
-unfolding run
-run_setting w [] h = refl
-run_setting w (a ∷ xs) h = run_setting (after w a) xs h.1 ∙ keeps_setting w a h.0
-
-pub set_since : (w : World) (s : Setting) (xs : List Single) → refusal (of_setup s) ≡ 0 → Every after (λ v a. NoSetup a) (after w (sets_up s)) xs → (run_singles (after w (sets_up s)) xs).mux.setting.special ≡ s.special
-set_since w s xs z h = ap (λ (t : Setting). t.special) (run_setting (after w (sets_up s)) xs h ∙ brings_setting w s z)

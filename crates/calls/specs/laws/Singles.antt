@@ -1,8 +1,8 @@
 -- A sweep is the inspections that it makes: a list of events comes to a list of single things, with the same world after it.
---   run_singles_lem     running the events is running the single things that they come to
 --   singles_single  every list of single things is what some events come to
 --   write_is        a host write puts in its words, leaves the record and answers nothing
 --   sweep_counts    a sweep makes exactly as many counted inspections as it says
+-- In proofs/laws/Singles, since they rest on these: run_singles_lem.
 -- Not here: what an event and a single thing are, in specs/Events; how long anybody waits, in waiting.
 -- Assumes nothing.
 use Rattle.std.specs.Prelude.{◌≡◌, refl, Bool, true, List, [], ◌∷◌, map, ℕ, length, replicate}
@@ -17,10 +17,11 @@ use Rattle.unit.specs.declared.mux.Setting.{Setting}
 use Rattle.unit.specs.Reply.{nothing, World, world}
 use Rattle.unit.specs.Refusals.{WORDS, refusal, of_sweep}
 use Rattle.unit.specs.Sound.{Sound}
-use Rattle.unit.specs.laws.Sound.{sweep_iff}
-use Rattle.scan.specs.laws.Scan.{sound_scans, scan_moves, inspection_sound}
+use Rattle.unit.proofs.laws.Sound.{sweep_iff}
+use Rattle.scan.proofs.laws.Scan.{sound_scans, scan_moves, inspection_sound}
 use Rattle.sweep.specs.Sweep.{Going, going, set_out, sweep}
-use Rattle.sweep.specs.laws.Sweep.{look, Looks, none, last, more, standing, sweeps, sweep_refused, sweep_accepted}
+use Rattle.sweep.specs.laws.Sweep.{look, Looks, none, last, more, standing, sweep_refused, sweep_accepted}
+use Rattle.sweep.proofs.laws.Sweep.{sweeps}
 use Rattle.calls.specs.declared.call.Act.TheVariants.{Inspect}
 use Rattle.calls.specs.declared.call.What.{What}
 use Rattle.calls.specs.declared.call.What.TheVariants.{Setup, Do, Sweep}
@@ -79,7 +80,7 @@ module _ (w : World) (n : ℕ) (list : List ℕ) where
       ap (λ g. g.reply.made) (sweep_accepted w.mux w.memory n list e) ∙ t.count ∙ zero-add t.number
 
   -- a sweep comes to the inspections that it makes
-  sweep_singles : run_singles w (replicate (sweep w.mux w.memory n list).reply.made (does Inspect)) ≡ (sweep w.mux w.memory n list).world
+  pub sweep_singles : run_singles w (replicate (sweep w.mux w.memory n list).reply.made (does Inspect)) ≡ (sweep w.mux w.memory n list).world
   unfolding Machine.run
   sweep_singles = go (ℕ_discrete (refusal (of_sweep w.mux w.memory n list)) 0)
     where
@@ -101,28 +102,6 @@ module _ (w : World) (n : ℕ) (list : List ℕ) where
           rw (says_made e)
           (looks_count (record { sound = t.sound; words = t.words }) (sweeps n (set_out w.mux w.memory list)).looks)
       go (no h) = rw (sweep_refused w.mux w.memory n list h)
-
--- a call comes to its single things
-call_singles : (w : World) (list : List ℕ) (s : Setting) (a : What) → run_singles w (singles_in w list s a) ≡ (step_of w list s a).world
-unfolding singles_in step_of result Machine.run
-call_singles w list s Setup = refl
-call_singles w list s (Do a) = refl
-call_singles w list s (Sweep n) = sweep_singles w n list
-
--- an event comes to its single things
-event_singles : (w : World) (e : Event) → run_singles w (singles_of w e) ≡ happens w e
-unfolding singles_of happens result Machine.run
-event_singles w (calls c list) = call_singles w list c.setting c.what
-event_singles w (host_writes m) = refl
-
--- running a list of events is running the single things that it comes to
-pub run_singles_lem : (w : World) (es : List Event) → run w es ≡ run_singles w (singles w es)
-unfolding singles Machine.run
-run_singles_lem w [] = refl
-run_singles_lem w (e ∷ es) =
-    run_singles_lem (happens w e) es
-    ∙ ap (λ v. run_singles v (singles (happens w e) es)) (sym (event_singles w e))
-    ∙ sym (run-append after w (singles_of w e) (singles (happens w e) es))
 
 -- single things made as events come to themselves
 pub singles_single : (w : World) (xs : List Single) → singles w (map single xs) ≡ xs

@@ -18,7 +18,7 @@ use Rattle.unit.specs.Refusals.{refusal}
 use Rattle.calls.specs.declared.call.Call.{Call}
 use Rattle.calls.specs.Calls.{given_of}
 use Rattle.calls.specs.Events.{Event, calls, host_writes, happens, run}
-use Rattle.calls.specs.laws.Refusals.{step_refuses, step_never_five}
+use Rattle.calls.proofs.laws.Refusals.{step_refuses, step_never_five}
 use Rattle.calls.specs.laws.Outcomes.{one_outcome}
 use Rattle.door.specs.Door.{Meets, Made, ready, called, written}
 

@@ -19,8 +19,10 @@ use Rattle.unit.specs.Reply.{world, Looked, Outcome}
 use Rattle.unit.specs.Refusals.{refusal, of_sweep}
 use Rattle.input.specs.laws.Kept.{next_of}
 use Rattle.input.specs.laws.Glottal.{Apart}
-use Rattle.scan.specs.laws.Glottal.{Waits, Delivered, glottal_seen, Typed, glottal_typed}
-use Rattle.sweep.specs.laws.Glottal.{Swept, glottal_swept}
+use Rattle.scan.specs.laws.Glottal.{Waits, Delivered, Typed}
+use Rattle.scan.proofs.laws.Glottal.{glottal_seen, glottal_typed}
+use Rattle.sweep.specs.laws.Glottal.{Swept}
+use Rattle.sweep.proofs.laws.Glottal.{glottal_swept}
 use Rattle.calls.specs.declared.call.Act.TheVariants.{Inspect}
 use Rattle.calls.specs.declared.call.What.TheVariants.{Do, Sweep}
 use Rattle.calls.specs.Calls.{performed, step_of}

@@ -3,6 +3,7 @@
 --   after_is, line_on                        one more number of a line
 --   Begun, begun_none, begun_on, begun_all   a line of which some numbers are put
 --   line_length                              how many bytes a line has at most
+-- In proofs/laws/Lines, since they rest on these: begun_none, begun_on, begun_all.
 -- Not here: what a line is, in Printed; a number's digits, in Numerals.
 -- Assumes nothing.
 use Rattle.std.specs.Prelude.{◌≡◌, refl, ℕ, zero, suc, ◌+◌, ◌*◌, ◌<◌, ◌≤◌, ltb, get_or, take, set}
@@ -51,30 +52,6 @@ pub record Begun (xs text : List ℕ) (i at : ℕ) (now : List ℕ) : Type 0 whe
   pub size : at + length (line_of (drop i xs)) ≡ length (line_of xs)
   pub near : at ≤ 21 * i
   pub long : length now ≡ length text
-
-module _ (xs text : List ℕ) where
-  pub begun_none : Begun xs text 0 0 text
-  begun_none = record { rest = refl; size = omega arith; near = omega arith; long = refl }
-
-  -- one more number
-  pub begun_on : (i at place : ℕ) (now left : List ℕ) (x b n : ℕ) → n ≡ length xs → i < n → x ≡ get_or xs i 0 → b ≡ pick (ltb (i + 1) n) 32 10 → Put (decimal x ++ (b ∷ [])) now at place left → Begun xs text i at now → Begun xs text (i + 1) place left
-  begun_on i at place now left x b n len h ex eb p g =
-      let part : List ℕ = decimal (get_or xs i 0) ++ (after (drop (i + 1) xs) ∷ []) in
-      let q : Put part now at place left = rw (after_is xs (i + 1), ← len, ← eb, ← ex) p in
-      let whole : line_of (drop i xs) ≡ part ++ line_of (drop (i + 1) xs) = line_on xs i (omega arith) in
-      record {
-        rest = rw (q.text, q.end) (sym (sets_on now at part (line_of (drop (i + 1) xs)))) ∙ sym (ap (λ (ys : List ℕ). sets now at ys) whole) ∙ g.rest;
-        size = omega (arith, q.end, g.size, ap length whole ∙ length-append part (line_of (drop (i + 1) xs)));
-        near = omega (arith, q.end, g.near, length-append (decimal (get_or xs i 0)) (after (drop (i + 1) xs) ∷ []), numeral_length 20 (get_or xs i 0));
-        long = ap length q.text ∙ length-sets now at part ∙ g.long;
-      }
-
-  -- all of them
-  pub begun_all : (i at : ℕ) (now : List ℕ) → i ≡ length xs → Begun xs text i at now → Put (line_of xs) text 0 at now
-  unfolding line_of
-  begun_all i at now e b =
-      let none : drop i xs ≡ [] = rw e (drop-length xs) in
-      record { end = omega (arith, b.size, ap (λ (ys : List ℕ). length (line_of ys)) none); text = rw none at b.rest }
 
 -- a line has at most 21 bytes for each number
 pub line_length : (xs : List ℕ) → length (line_of xs) ≤ 21 * length xs

@@ -28,13 +28,13 @@ use Rattle.interrupt.specs.laws.Shown.{shows}
 use Rattle.unit.specs.declared.reply.Turn.TheVariants.{Served}
 use Rattle.unit.specs.Record.{address_at}
 use Rattle.unit.specs.Reply.{World}
-use Rattle.unit.specs.laws.Replies.{setup_accepted}
+use Rattle.unit.proofs.laws.Replies.{setup_accepted}
 use Rattle.processor.specs.declared.orders.Order.TheVariants.{Dias}
 use Rattle.processor.specs.laws.Processor.{order_sound, reset_rests}
 use Rattle.calls.specs.Calls.{set_up, performed}
 use Rattle.calls.specs.Events.{Single, NoSetup, sets_up, does, writes, result, after, run_singles, singles}
 use Rattle.calls.specs.laws.Set.{keeps_setting}
-use Rattle.calls.specs.laws.Singles.{run_singles_lem}
+use Rattle.calls.proofs.laws.Singles.{run_singles_lem}
 use Rattle.door.specs.laws.Door.{made_run}
 use Rattle.waiting.specs.Counting.{unrefused, is_clear}
 use Rattle.waiting.specs.Waiting.{Clears, reset, setup}

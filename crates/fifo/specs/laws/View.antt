@@ -19,25 +19,27 @@ use Rattle.interrupt.specs.declared.Irq.{Irq}
 use Rattle.interrupt.specs.Interrupt as Interrupt
 use Rattle.interrupt.specs.Stack.{Tidy}
 use Rattle.interrupt.specs.laws.Before.{Was, was, plain, plain_before}
-use Rattle.interrupt.specs.laws.Stack.{fresh_tidy, raised_tidy, started_tidy, ticked_tidy}
+use Rattle.interrupt.specs.laws.Stack.{fresh_tidy, started_tidy, ticked_tidy}
+use Rattle.interrupt.proofs.laws.Stack.{raised_tidy}
 use Rattle.unit.specs.declared.mux.Setting.{Setting}
 use Rattle.unit.specs.declared.mux.Mux.{Mux}
 use Rattle.unit.specs.declared.reply.Turn.TheVariants.{Served}
 use Rattle.unit.specs.Record.{fresh, address_at}
 use Rattle.unit.specs.Reply.{refused, accepted, World, looked}
 use Rattle.unit.specs.Refusals.{refusal, of_setup, of_unit, of_port}
-use Rattle.unit.specs.laws.Replies.{setup_accepted}
-use Rattle.unit.specs.laws.Sound.{sound_iff}
+use Rattle.unit.proofs.laws.Replies.{setup_accepted}
+use Rattle.unit.proofs.laws.Sound.{sound_iff}
 use Rattle.lines.specs.declared.signal.Signal.{Signal}
 use Rattle.lines.specs.laws.Lines.{line_refused, line_accepted}
 use Rattle.processor.specs.declared.orders.Order.{Order}
 use Rattle.processor.specs.declared.orders.Order.TheVariants.{Reset, Iopls, Start, Doc, Dob, Dia, Dias, Tick}
 use Rattle.processor.specs.Processor as Processor
 use Rattle.processor.specs.laws.Processor.{order_refused, order_accepted}
-use Rattle.scan.specs.laws.Interrupt.{Interrupts, raises, silent, inspection_irq}
+use Rattle.scan.specs.laws.Interrupt.{Interrupts, raises, silent}
+use Rattle.scan.proofs.laws.Interrupt.{inspection_irq}
 use Rattle.calls.specs.declared.call.Act.TheVariants.{Line, Processor, Inspect}
 use Rattle.calls.specs.Calls.{setting_up, set_up, performed, step_of, given_of}
-use Rattle.calls.specs.laws.Refusals.{step_refuses}
+use Rattle.calls.proofs.laws.Refusals.{step_refuses}
 use Rattle.calls.specs.Events.{Single, NoSetup, sets_up, does, writes, result, after, run_singles}
 use Rattle.calls.specs.laws.Set.{keeps_setting}
 use Rattle.waiting.specs.Counting.{unrefused, is_clear}

@@ -2,6 +2,7 @@
 --   baud_start, baud_data, baud_parity, baud_stop   the level of each baud
 --   baud_below, cell_below                          a level is 0 or 1
 --   first_half_lem, second_half                         both cells of a baud have its level
+-- In proofs/laws/Cells, since they rest on these: baud_data, baud_parity, baud_stop, cell_below.
 -- Not here: the definitions, in specs/Cells; what the parity bit makes of the ones, in Parity.
 -- Assumes nothing.
 use Rattle.std.specs.Prelude.{◌≡◌, refl, Bool, true, false, ℕ, ◌+◌, ◌-◌, ◌*◌, ◌/◌, ◌^◌, ◌<◌, ◌≤◌, ltb}
@@ -16,34 +17,6 @@ use Rattle.framing.specs.laws.Form.{first_stop_lem}
 pub baud_start : (f : Form) (c : ℕ) → baud f c 0 ≡ space
 unfolding baud pick
 baud_start f c = refl
-
--- past the start: by the two tests that are left
-past : (f : Form) (c j : ℕ) → 0 < j → baud f c j ≡ pick (ltb j (data_bits f + 1)) (bit_at c (j - 1)) (pick (ltb j (first_stop f)) (parity_bit f c) mark)
-unfolding baud
-past f c j h = pick-false _ _ _ (ne_eqb j 0 (λ e. omega (arith, e, h)))
-
--- the data bits, lowest first
-pub baud_data : (f : Form) (c j : ℕ) → 0 < j → j ≤ data_bits f → baud f c j ≡ bit_at c (j - 1)
-baud_data f c j h k =
-    let l : j < data_bits f + 1 = omega (arith, k) in
-    past f c j h ∙ pick_true _ _ _ (lt-ltb j (data_bits f + 1) l)
-
--- past the data
-after : (f : Form) (c j : ℕ) → data_bits f < j → baud f c j ≡ pick (ltb j (first_stop f)) (parity_bit f c) mark
-after f c j h =
-    let l : data_bits f + 1 ≤ j = omega (arith, h) in
-    let m : 0 < j = omega (arith, h) in
-    past f c j m ∙ pick-false _ _ _ (le-ltb j (data_bits f + 1) l)
-
--- what lies between data and stop is the parity bit
-pub baud_parity : (f : Form) (c j : ℕ) → data_bits f < j → j < first_stop f → baud f c j ≡ parity_bit f c
-baud_parity f c j h k = after f c j h ∙ pick_true _ _ _ (lt-ltb j (first_stop f) k)
-
--- marks from the first stop on
-pub baud_stop : (f : Form) (c j : ℕ) → first_stop f ≤ j → baud f c j ≡ mark
-baud_stop f c j h =
-    let l : data_bits f < j = omega (arith, (first_stop_lem f).0, h) in
-    after f c j l ∙ pick-false _ _ _ (le-ltb j (first_stop f) h)
 
 pub bit_at_below : (c k : ℕ) → bit_at c k < 2
 unfolding bit_at
@@ -62,10 +35,6 @@ parity_below f c = mod-lt _ (lit< tt)
 pub baud_below : (f : Form) (c j : ℕ) → baud f c j < 2
 unfolding baud
 baud_below f c j = chosen_below _ _ _ (lit< tt) (chosen_below _ _ _ (bit_at_below c (j - 1)) (chosen_below _ _ _ (parity_below f c) (lit< tt)))
-
-pub cell_below : (f : Form) (c i : ℕ) → frame_cell f c i < 2
-unfolding frame_cell
-cell_below f c i = baud_below f c (i / 2)
 
 half : (j : ℕ) → (2 * j / 2 ≡ j) × ((2 * j + 1) / 2 ≡ j)
 half j = (omega arith, omega arith)

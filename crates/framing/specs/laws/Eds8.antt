@@ -1,8 +1,8 @@
 -- The form of an EDS-8's control bits (document 02, K3; 001, 4.2 bits 8 to 12).
 --   eds8_bits, eds8_cut        its length is the port's, and its cut the base's own
---   eds8_back                  a frame written and read by it gives that cut, unmarked
 --   eds8_parity, eds8_sense    parity unless bit 8 inhibits it, even by bit 12
 --   eds8_stops                 two stop cells, or four: never three
+-- In proofs/laws/Eds8, since they rest on these: eds8_back.
 -- Not here: the map itself, in specs/Eds8; what an arrival makes of a character that was read, in wire.
 -- Assumes nothing.
 use Rattle.std.specs.Prelude.{◌≡◌, refl, Bool, true, false, not, List, ℕ, zero, suc, ◌+◌, ◌-◌, ◌*◌, ◌/◌, ◌%◌, ◌^◌, ◌<◌, ◌≤◌, eqb, length}
@@ -20,7 +20,7 @@ use Rattle.framing.specs.Write.{write_frame}
 use Rattle.framing.specs.Read.{read_frame}
 use Rattle.framing.specs.Number.{bits_numbered}
 use Rattle.framing.specs.Eds8.{bits_of, parity_of, stops_of, form_of}
-use Rattle.framing.specs.laws.Frames.{heard, reads_back}
+use Rattle.framing.specs.laws.Frames.{heard}
 
 -- four codes, four lengths
 lengths : (k : ℕ) → k < 4 → bits_number (bits_numbered k) ≡ 5 + k
@@ -44,10 +44,6 @@ eds8_bits control = lengths (get LENGTH control) (below LENGTH control (lit< tt)
 pub eds8_cut : (control c : ℕ) → limited (form_of control) c ≡ cut control c
 unfolding limited cut span_of
 eds8_cut control c = ap (λ (n : ℕ). c % 2 ^ n) (eds8_bits control)
-
--- a frame that is written and read by them gives the base's own cut, unmarked
-pub eds8_back : (control c : ℕ) (d : List ℕ) → frame_cells (form_of control) ≤ length d → read_frame (form_of control) (write_frame (form_of control) c d).cells ≡ heard (form_of control) (cut control c) false false
-eds8_back control c d h = reads_back (form_of control) c d h ∙ ap (λ (x : ℕ). heard (form_of control) x false false) (eds8_cut control c)
 
 -- parity unless bit 8 inhibits it
 pub eds8_parity : (control : ℕ) → has_parity (form_of control) ≡ not (eqb (get PARITY-INHIBIT control) 1)

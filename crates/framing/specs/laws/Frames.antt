@@ -1,6 +1,6 @@
 -- What is read of a frame, over any form (document 02, K3).
 --   heard, Sounds, sounds_read   the one law: levels that are a character's but for parity bit and first stop
---   frame_sounds, reads_back     a frame as it was written
+-- In proofs/laws/Frames, since they rest on these: sounds_read, frame_sounds, written, written_fits, written_sounds, reads_back.
 -- Not here: a frame that was changed on the way, in Changed; what any list gives, in Any; when reading is refused, in Refusals; every cell of a
 -- written list, in Levels; that a form's cut is the base's own, in Eds8.
 -- Assumes nothing.
@@ -16,10 +16,10 @@ use Rattle.framing.specs.Cells.{space, mark, bit_at, limited, parity_bit, baud, 
 use Rattle.framing.specs.Write.{write_frame}
 use Rattle.framing.specs.Read.{level_at, data_of, parity_mark, break_mark, frame_read, read_frame}
 use Rattle.framing.specs.laws.Form.{first_stop_lem, stop_checked, stop_unchecked, frame_cells_lem}
-use Rattle.framing.specs.laws.Cells.{baud_start, baud_data, baud_parity, baud_stop, first_half_lem, second_half}
+use Rattle.framing.specs.laws.Cells.{baud_start, first_half_lem, second_half}
 use Rattle.framing.specs.laws.Data.{data_cut}
-use Rattle.framing.specs.laws.Refusals.{Framed, framed_iff, read_good}
-use Rattle.framing.specs.laws.Levels.{written_level, cells_length}
+use Rattle.framing.specs.laws.Refusals.{Framed, framed_iff}
+use Rattle.framing.specs.laws.Levels.{cells_length}
 
 -- what a frame gives that is not refused: a character and its marks
 abbrev pub heard : Form → ℕ → Bool → Bool → Frame
@@ -42,7 +42,7 @@ data_or_parity f j a b = go (ltb (data_bits f) j) refl (has_parity f) refl
     go true e false h = absurd (omega (arith, ltb-true (data_bits f) j e, b, stop_unchecked f h))
 
 module _ (f : Form) (c q s t : ℕ) (g : ℕ → ℕ) (h : Sounds f c q s t g) where
-  sounds_framed : Framed f g
+  pub sounds_framed : Framed f g
   sounds_framed = record { first = h.start.0; second = h.start.1; halves = λ j a b. go j (data_or_parity f j a b) }
     where
       go : (j : ℕ) → ((j - 1 < data_bits f) × (j ≡ suc (j - 1))) ⊎ ((has_parity f ≡ true) × (j ≡ suc (data_bits f))) → g (2 * j) ≡ g (2 * j + 1)
@@ -53,7 +53,7 @@ module _ (f : Form) (c q s t : ℕ) (g : ℕ → ℕ) (h : Sounds f c q s t g) w
   unfolding limited
   sounds_data = data_cut g c (data_bits f) (λ k l. (h.bits k l).0)
 
-  sounds_parity : parity_mark f g (limited f c) ≡ (has_parity f && not (eqb q (parity_bit f c)))
+  pub sounds_parity : parity_mark f g (limited f c) ≡ (has_parity f && not (eqb q (parity_bit f c)))
   unfolding parity_mark parity_bit limited
   sounds_parity = go (has_parity f) refl
     where
@@ -61,54 +61,13 @@ module _ (f : Form) (c q s t : ℕ) (g : ℕ → ℕ) (h : Sounds f c q s t g) w
       go false e = rw e refl
       go true e = rw (add-one (data_bits f), (h.parity e).0, mod-mod c (2 ^ data_bits f)) refl
 
-  sounds_break : break_mark f g ≡ (eqb s space || eqb t space)
+  pub sounds_break : break_mark f g ≡ (eqb s space || eqb t space)
   unfolding break_mark
   sounds_break = rw (h.stop.0, h.stop.1) refl
 
--- the one law
-pub sounds_read : (f : Form) (c q s t : ℕ) (cells : List ℕ) → frame_cells f ≤ length cells → Sounds f c q s t (level_at cells) → read_frame f cells ≡ heard f (limited f c) (has_parity f && not (eqb q (parity_bit f c))) (eqb s space || eqb t space)
-unfolding frame_read
-sounds_read f c q s t cells l h =
-    let g = level_at cells in
-    read_good f cells l ((framed_iff f cells).1 (sounds_framed f c q s t g h))
-    ∙ rw (sounds_data f c q s t g h, sounds_parity f c q s t g h, sounds_break f c q s t g h) refl
-
 -- ---- a frame as it was written
-
--- levels that are the frame's up to the end of the first stop
-pub frame_sounds : (f : Form) (c : ℕ) (g : ℕ → ℕ) → ((i : ℕ) → i < 2 * first_stop f + 2 → g i ≡ frame_cell f c i) → Sounds f c (parity_bit f c) mark mark g
-frame_sounds f c g e =
-    record {
-      start = (e 0 (omega arith) ∙ first_half_lem f c 0 ∙ baud_start f c, e 1 (omega arith) ∙ second_half f c 0 ∙ baud_start f c);
-      bits = λ k l. bauds (suc k) (bit_at c k) (omega (arith, l, (first_stop_lem f).0)) (bit k l);
-      parity = λ p. bauds (suc (data_bits f)) (parity_bit f c) (omega (arith, (first_stop_lem f).0)) (baud_parity f c (suc (data_bits f)) (omega arith) (omega (arith, stop_checked f p)));
-      stop = bauds (first_stop f) mark (omega arith) (baud_stop f c (first_stop f) (omega arith));
-    }
-  where
-    bauds : (j x : ℕ) → j ≤ first_stop f → baud f c j ≡ x → (g (2 * j) ≡ x) × (g (2 * j + 1) ≡ x)
-    bauds j x l b = (e (2 * j) (omega (arith, l)) ∙ first_half_lem f c j ∙ b, e (2 * j + 1) (omega (arith, l)) ∙ second_half f c j ∙ b)
-
-    bit : (k : ℕ) → k < data_bits f → baud f c (suc k) ≡ bit_at c k
-    bit k l = baud_data f c (suc k) (omega arith) (omega (arith, l)) ∙ ap (bit_at c) (omega arith)
 
 -- the parity bit that is asked for is no parity mark
 pub unmarked : (p : Bool) (x : ℕ) → (p && not (eqb x x)) ≡ false
 unmarked true x = rw (eq-eqb x x refl) refl
 unmarked false x = refl
-
-module _ (f : Form) (c : ℕ) (d : List ℕ) (fits : frame_cells f ≤ length d) where
-  -- the list after the frame was written
-  abbrev pub written : List ℕ
-  written = (write_frame f c d).cells
-
-  pub written_fits : frame_cells f ≤ length written
-  written_fits = subst⁻¹ (λ (n : ℕ). frame_cells f ≤ n) (cells_length f c d fits) fits
-
-  pub written_sounds : Sounds f c (parity_bit f c) mark mark (level_at written)
-  written_sounds = frame_sounds f c (level_at written) (λ i l. written_level f c d i fits (omega (arith, l, (frame_cells_lem f).0)))
-
-  -- it reads back as the character, cut to its length, unmarked
-  pub reads_back : read_frame f (write_frame f c d).cells ≡ heard f (limited f c) false false
-  reads_back =
-      sounds_read f c (parity_bit f c) mark mark written written_fits written_sounds
-      ∙ ap (λ (p : Bool). heard f (limited f c) p false) (unmarked (has_parity f) (parity_bit f c))

@@ -1,8 +1,8 @@
 -- The levels of a list of cells: of one that was written, and of one in which a baud was changed.
 --   level_itself      0 and 1 are their own levels
 --   cell_in, cell_past, cells_length   every cell of the list after a frame was written
---   written_level     its levels are the frame's
 --   with_baud          a list with other cells in one baud; changed_first, changed_second, changed_else, changed_length
+-- In proofs/laws/Levels, since they rest on these: written_level.
 -- Not here: what is read of them, in Back and Frames.
 -- Assumes nothing.
 use Rattle.std.specs.Prelude.{◌≡◌, refl, List, ℕ, zero, suc, ◌+◌, ◌*◌, ◌<◌, ◌≤◌, length, get_or, set}
@@ -16,7 +16,6 @@ use Rattle.framing.specs.Form.{frame_cells}
 use Rattle.framing.specs.Cells.{frame_cell}
 use Rattle.framing.specs.Write.{write_frame}
 use Rattle.framing.specs.Read.{level, level_at}
-use Rattle.framing.specs.laws.Cells.{cell_below}
 use Rattle.framing.specs.laws.Refusals.{write_fits}
 
 pub level_itself : (x : ℕ) → x < 2 → level x ≡ x
@@ -38,11 +37,6 @@ cell_past f c d i h l = rw (write_fits f c d h) (tab_past (frame_cells f) (frame
 -- no cell more and none less
 pub cells_length : (f : Form) (c : ℕ) (d : List ℕ) → frame_cells f ≤ length d → length (write_frame f c d).cells ≡ length d
 cells_length f c d h = rw (write_fits f c d h) (tab_to_length (frame_cells f) (frame_cell f c) d h)
-
--- so its levels are the frame's
-pub written_level : (f : Form) (c : ℕ) (d : List ℕ) (i : ℕ) → frame_cells f ≤ length d → i < frame_cells f → level_at (write_frame f c d).cells i ≡ frame_cell f c i
-unfolding level_at
-written_level f c d i h l = ap level (cell_in f c d i h l) ∙ level_itself (frame_cell f c i) (cell_below f c i)
 
 -- ---- a list in which the two cells of one baud were changed
 

@@ -1,6 +1,6 @@
 -- What the parity bit makes of the ones (document 02, K3; 001, 4.2 bits 8 and 12).
 --   parity_sense             the ones of data and parity bit together leave the form's sense by 2
---   odd_parity, even_parity  so they are odd, or even
+-- In proofs/laws/Parity, since they rest on these: odd_parity, even_parity.
 -- Not here: the parity bit, in specs/Cells; the mark, in Changed.
 -- Assumes nothing.
 use Rattle.std.specs.Prelude.{◌≡◌, ℕ, ◌+◌, ◌%◌, ◌<◌}
@@ -23,13 +23,3 @@ together a s h = omega (arith, h)
 pub parity_sense : (f : Form) (c : ℕ) → (ones (limited f c) + parity_bit f c) % 2 ≡ sense f
 unfolding parity_bit sense
 parity_sense f c = together (ones (limited f c)) (sense_of f.parity) (sense_below f.parity)
-
--- with odd parity the ones on the line are odd
-pub odd_parity : (f : Form) (c : ℕ) → f.parity ≡ Odd → (ones (limited f c) + parity_bit f c) % 2 ≡ 1
-unfolding sense
-odd_parity f c e = parity_sense f c ∙ ap sense_of e
-
--- with even parity they are even
-pub even_parity : (f : Form) (c : ℕ) → f.parity ≡ Even → (ones (limited f c) + parity_bit f c) % 2 ≡ 0
-unfolding sense
-even_parity f c e = parity_sense f c ∙ ap sense_of e

@@ -3,6 +3,7 @@
 --   data_below           n data bits make a number below 2 ^ n
 --   data_step, data_narrow, data_end, whole_step, whole_end   the bauds taken from the top down
 --   whole_all, whole_each   what the test of the halves says
+-- In proofs/laws/Read, since they rest on these: level_at_below.
 -- Not here: the definitions, in specs/Read; a written frame read back, in Frames.
 -- Assumes nothing.
 use Rattle.std.specs.Prelude.{◌≡◌, refl, Bool, true, false, ◌&&◌, List, ◌⊎◌, ℕ, zero, suc, ◌+◌, ◌-◌, ◌*◌, ◌^◌, ◌<◌, ◌≤◌, eqb, get_or}
@@ -20,10 +21,6 @@ level_mark x h = pick-false (eqb x 0) space mark (ne_eqb x 0 (λ e. omega (arith
 pub level_below : (x : ℕ) → level x < 2
 unfolding level
 level_below x = chosen_below _ space mark (lit< tt) (lit< tt)
-
-pub level_at_below : (cells : List ℕ) (i : ℕ) → level_at cells i < 2
-unfolding level_at
-level_at_below cells i = level_below (get_or cells i 0)
 
 pub data_below : (g : ℕ → ℕ) → ((i : ℕ) → g i < 2) → (n : ℕ) → data_of g n < 2 ^ n
 unfolding data_of

@@ -1,11 +1,10 @@
 -- What an input service may change in the host's memory (document 01, Input): ICW, IBP and the one byte of the buffer.
 --   kept_length   the memory keeps its length
 --   kept_word     every word is as it was but ICW, IBP and the word that holds the buffer's byte
---   kept_byte     every byte is as it was but those of ICW and IBP and the one stored: of its word the other half is kept
---   kept_planned  where the plan stores no byte, every word but ICW is as it was
 --   Unstored      steps 1 to 5, each by its own condition: the character does not go to the buffer
 --   kept_unstored so every word but ICW is as it was
 --   kept_dropped  and where the mode asks for no input, the whole memory is
+-- In proofs/laws/Kept, since they rest on these: kept_byte, kept_planned, kept_unstored.
 -- Not here: what the words that may change become, in Word, Automatic and Glottal; the port's own changes, in scan.
 -- Assumes nothing.
 use Rattle.std.specs.Prelude.{◌≡◌, refl, Bool, true, false, not, ◌&&◌, List, ◌≢◌, ℕ, ◌+◌, ◌/◌, ◌<◌, eqb, length, get_or}
@@ -55,36 +54,12 @@ stores_word : (p : Plan) (a next : ℕ) (m : List ℕ) (k : ℕ) → k ≢ a + a
 unfolding carried
 stores_word p a next m k i b n = simp (other_word, other_word_of_byte)
 
-stores_byte : (p : Plan) (a next : ℕ) (m : List ℕ) (r : ℕ) → p.byte < 256 → r / 2 ≢ a + at_icw → r / 2 ≢ a + at_ibp → r ≢ next → byte_at (carried p a next m) r ≡ byte_at m r
-unfolding carried
-stores_byte p a next m r h i b n = simp (other_byte_of_word, other_byte)
-
--- where the plan stores no byte, it leaves every word but ICW
-stores_none : (p : Plan) (a next : ℕ) (m : List ℕ) (k : ℕ) → p.store ≡ false → k ≢ a + at_icw → get_or (carried p a next m) k 0 ≡ get_or m k 0
-unfolding carried word_if byte_if pick
-stores_none p a next m k e i =
-    let stored : Bool → List ℕ = λ t. byte_if t (word_if t m (a + at_ibp) next) next p.byte in
-    other_word p.write (stored p.store) (a + at_icw) p.icw k i ∙ ap (λ (t : Bool). get_or (stored t) k 0) e
-
 -- ---- of every branch of the plan
 
-either : (C : Plan → Type 0) (t : Bool) (p r : Plan) → C p → C r → C (pick t p r)
+pub either : (C : Plan → Type 0) (t : Bool) (p r : Plan) → C p → C r → C (pick t p r)
 unfolding pick
 either C true p r h k = h
 either C false p r h k = k
-
--- its byte is a byte
-abbrev Fits : Plan → Type 0
-Fits p = p.byte < 256
-
-plan_byte : (icw code c : ℕ) (last special empty : Bool) → stored_byte (ascii icw) c < 256 → (input_plan icw code c last special empty).byte < 256
-unfolding input_plan replaced_plan done_plan stored_plan
-plan_byte icw code c last special empty h =
-    either Fits (eqb (get INDONE icw) 1) _ _ (lit< tt)
-    (either Fits (eqb (get INMO icw) in_none) _ _ (lit< tt)
-    (either Fits (eqb (get INMO icw) in_single) _ _ (lit< tt)
-    (either Fits (not (eqb code flag_none)) _ _ (lit< tt)
-    (either Fits (ascii icw && special) _ _ (lit< tt) h))))
 
 -- ---- the service
 
@@ -98,18 +73,7 @@ pub kept_word : (codes : List Bool) (m : List ℕ) (a : ℕ) (q : Port) (k : ℕ
 unfolding input_service
 kept_word codes m a q k i b n = stores_word _ a (next_of m a) m k i b n
 
--- a byte that is not the buffer's next one and lies in neither ICW nor IBP is as it was: so the other half of the stored byte's word is. What
--- would be stored is a byte, as it is of any character that is one (`stored_fits` of words) and of any in 7-bit ASCII mode
-pub kept_byte : (codes : List Bool) (m : List ℕ) (a : ℕ) (q : Port) (r : ℕ) → stored_byte (ascii (icw_of m a)) q.ch.byte < 256 → r / 2 ≢ a + at_icw → r / 2 ≢ a + at_ibp → r ≢ next_of m a → byte_at (after codes m a q) r ≡ byte_at m r
-unfolding input_service
-kept_byte codes m a q r h i b n = stores_byte _ a (next_of m a) m r (plan_byte _ _ q.ch.byte _ _ _ h) i b n
-
 -- ---- a character that does not go to the buffer
-
--- where the plan stores no byte, every word but ICW is as it was
-pub kept_planned : (codes : List Bool) (m : List ℕ) (a : ℕ) (q : Port) (k : ℕ) → (plan_of codes m a q).store ≡ false → k ≢ a + at_icw → get_or (after codes m a q) k 0 ≡ get_or m k 0
-unfolding input_service
-kept_planned codes m a q k e i = stores_none (plan_of codes m a q) a (next_of m a) m k e i
 
 -- steps 1 to 5 in order, each by its own condition as the plan reads it; none asks that those before it were passed
 pub data Unstored (codes : List Bool) (m : List ℕ) (a : ℕ) (q : Port) : Type 0 where
@@ -137,10 +101,6 @@ plan_leaves codes m a q (special_code e s) =
     (either Leaves (eqb (get INMO (icw_of m a)) in_none) _ _ refl
     (either Leaves (eqb (get INMO (icw_of m a)) in_single) _ _ refl
     (either Leaves (not (eqb (code_of q) flag_none)) _ _ refl (rw (e, s)))))
-
--- in each of them every word but ICW is as it was
-pub kept_unstored : (codes : List Bool) (m : List ℕ) (a : ℕ) (q : Port) (k : ℕ) → Unstored codes m a q → k ≢ a + at_icw → get_or (after codes m a q) k 0 ≡ get_or m k 0
-kept_unstored codes m a q k h i = kept_planned codes m a q k (plan_leaves codes m a q h) i
 
 -- INDONE clear and a mode that asks for no input: not a word changes
 pub kept_dropped : (codes : List Bool) (m : List ℕ) (a : ℕ) (q : Port) → get INDONE (icw_of m a) ≡ 0 → get INMO (icw_of m a) ≡ in_none → after codes m a q ≡ m

@@ -5,6 +5,7 @@
 --   accepted, push_entries, push_lost   what an interrupt adds behind the entries, and when it sets the lost mark
 --   start_entries                  what START takes from their front, if there is one
 --   start_flag, start_lost         after START: the flag is on exactly where entries remain, and the lost mark stays only there
+-- In proofs/laws/Stack, since they rest on these: raised_tidy.
 -- Not here: what DIA shows, in Shown; a run of many calls, in fifo.
 -- Assumes nothing.
 use Rattle.std.specs.Prelude.{◌≡◌, refl, Bool, true, false, not, ◌&&◌, ◌||◌, List, [], ◌∷◌, ◌++◌, ℕ, zero, suc, ◌+◌, ◌-◌, ◌≤◌, ◌<◌, ltb, length, take, drop, replicate}
@@ -23,7 +24,7 @@ use Rattle.interrupt.specs.Interrupt.{fresh, cleared, merged, raised, started, t
 -- ---- freed places are 0
 
 -- it is a matter of the number of entries and the places alone
-like : (i j : Irq) → j.fill ≡ i.fill → j.stack ≡ i.stack → Tidy i → Tidy j
+pub like : (i j : Irq) → j.fill ≡ i.fill → j.stack ≡ i.stack → Tidy i → Tidy j
 like i j e f t = record { places = ap length f ∙ t.places; fits = rw e t.fits; freed = rw (e, f) t.freed }
 
 pub fresh_tidy : Tidy fresh
@@ -32,38 +33,6 @@ fresh_tidy = record { places = refl; fits = omega arith; freed = refl }
 pub cleared_tidy : (i : Irq) → Tidy (cleared i)
 unfolding cleared
 cleared_tidy i = fresh_tidy
-
--- zeros but for the first of them
-fewer : (n : ℕ) → drop {A = ℕ} 1 (replicate n 0) ≡ replicate (n - 1) 0
-fewer zero = refl
-fewer (suc n) = let e : suc n - 1 ≡ n = omega arith in rw e refl
-
-queued_tidy : (e : ℕ) (i : Irq) → i.fill < DEPTH → Tidy i → Tidy (queued e i)
-queued_tidy e i l t =
-    let zeros : DEPTH - i.fill - 1 ≡ DEPTH - (i.fill + 1) = omega arith in
-    record {
-      places = length-set i.stack i.fill e ∙ t.places;
-      fits = omega arith;
-      freed =
-          drop-set-lt (i.fill + 1) i.stack i.fill e (omega arith)
-          ∙ sym (drop-drop 1 i.fill i.stack)
-          ∙ ap (λ (l : List ℕ). drop 1 l) t.freed
-          ∙ fewer (DEPTH - i.fill)
-          ∙ ap (λ (n : ℕ). replicate n 0) zeros;
-    }
-
-pushed_tidy : (e : ℕ) (i : Irq) → Tidy i → Tidy (pushed e i)
-unfolding pushed pick
-pushed_tidy e i t = go (ltb i.fill DEPTH) refl
-  where
-    go : (b : Bool) → ltb i.fill DEPTH ≡ b → Tidy (pick b (queued e i) (overflowed i))
-    go true l = queued_tidy e i (ltb-true _ _ l) t
-    go false l = like i (overflowed i) refl refl t
-
-pub raised_tidy : (k : Kind) (s : Service) (address : ℕ) (i : Irq) → Tidy i → Tidy (raised k s address i)
-unfolding raised merged
-raised_tidy Eds8 s address i t = like i (merged s address i) refl refl t
-raised_tidy MightyMux s address i t = pushed_tidy (entry s address) i t
 
 -- the places after START, where there are n + 1 entries
 shifted_length : (a : List ℕ) → length a ≡ DEPTH → length (shifted a) ≡ DEPTH

@@ -4,7 +4,7 @@ use borrow.Author.Tests.{eq-eqb, ne_eqb}
 use borrow.Author.Rules.{rules}
 use Rattle.ground.specs.Choose.{pick}
 use Rattle.unit.specs.Reply.{guarded}
-use Rattle.unit.specs.laws.Sound.{port_below}
+use Rattle.unit.proofs.laws.Sound.{port_below}
 use Rattle.lines.specs.Lines.{line}
 use Rattle.lines.proofs.line.Goals as goal
 

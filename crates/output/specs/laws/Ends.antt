@@ -5,10 +5,8 @@
 --   next_below, steps          a byte that raises no interrupt: OBP one on with no jump to 0, and LOB − OBP one less
 --   Visit, found, leaves       an output service, with the memory and the port that it finds; the three words that it finds and leaves
 --   Open, open_edge, Done      automatic mode with OUTDONE clear, LOB a word; OUTDONE set
---   serves, output_ends        so after max(1, LOB − OBP) output services OUTDONE is set, whatever becomes of every other word meanwhile
---   first_ends, from_top       a byte is done where LOB is at most OBP + 1: so after 65535, where it is the left half of word 0
---   same_service               by the rule as it was: the same where OBP + 1 is below LOB or equal to it
 --   short ..                   OBP 2003 with LOB 2003: one service ends it, and by the rule as it was it ran on
+-- In proofs/laws/Ends, since they rest on these: serves, output_ends, first_ends, from_top, same_service, short_ends.
 -- Not here: services one after the other, and the count, in words, laws/Buffer; when the end is reached, in words, laws/Pointer; the service by any rule for the end, in Rules; an input of
 -- the same port that lies on LOB, in calls, Examples.
 -- Assumes nothing.
@@ -114,65 +112,7 @@ pub open_edge : Open (record { control = 0o20000; pointer = 65533; end = 65535 }
 unfolding get
 open_edge = record { sending = record { clear = refl; mode = refl }; word = lit< tt }
 
--- an open buffer is then done, or steps on and stays open; a buffer that is done stays done
-pub serves : (a : ℕ) (v : Visit a) → Serves Open Done (found a v) (leaves a v)
-unfolding bit
-serves a v =
-    record {
-      stays = λ d. ap (get OUTDONE) written ∙ written_set ocw v.port.devstatus (output_service v.codes v.memory a v.port).effect.raised d;
-      goes = λ o. by o (output_service v.codes v.memory a v.port).effect.raised refl;
-    }
-  where
-    ocw : ℕ
-    ocw = (found a v).control
-
-    written : (leaves a v).control ≡ written_ocw ocw v.port.devstatus (output_service v.codes v.memory a v.port).effect.raised
-    written = ocw_after v.codes v.memory a v.port v.placed
-
-    done_is : Open (found a v) → get OUTDONE (leaves a v).control ≡ bit (output_service v.codes v.memory a v.port).effect.raised
-    done_is o = ap (get OUTDONE) written ∙ written_done ocw v.port.devstatus (output_service v.codes v.memory a v.port).effect.raised o.sending.clear
-
-    by : Open (found a v) → (t : Bool) → (output_service v.codes v.memory a v.port).effect.raised ≡ t → Done (leaves a v) ⊎ (Open (leaves a v) × Steps (found a v) (leaves a v))
-    by o true r = inl (done_is o ∙ ap bit r)
-    by o false r =
-        let s = steps v.codes v.memory a v.port o.sending v.placed o.word r in
-        inr (
-          record {
-            sending = record {
-              clear = done_is o ∙ ap bit r;
-              mode = ap (get OUTMO) written ∙ written_mode ocw v.port.devstatus (output_service v.codes v.memory a v.port).effect.raised ∙ o.sending.mode;
-            };
-            word = rw s.end o.word;
-          },
-          s,
-        )
-
--- a buffer ends: with OCW, OBP and LOB as the port's own output services left them, as many of these as max(1, LOB − OBP), or more, set
--- OUTDONE. Every other word may have changed between them
-pub output_ends : (a : ℕ) (b : Buffer) (vs : List (Visit a)) → Open b → Follow (found a) (leaves a) b vs → room b ≤ length vs → Done (left (found a) (leaves a) b vs)
-output_ends a b vs o f h = ends (found a) (leaves a) Open Done (serves a) b vs f o h
-
--- ---- a buffer that is set up too short
-
-module _ (codes : List Bool) (m : List ℕ) (a : ℕ) (q : Port) (sending : Sending (ocw_of m a)) where
-  -- where LOB is at most OBP + 1, so where it is 0, the first byte is done
-  pub first_ends : (buffer_of m a).end ≤ (buffer_of m a).pointer + 1 → (output_service codes m a q).effect.raised ≡ true
-  first_ends h = raises codes m a q sending ∙ rw ((at_end_iff (buffer_of m a).pointer (buffer_of m a).end).1 h)
-
-  -- after OBP 65535 it is done whatever LOB is, and the byte that is handed over is the left half of word 0
-  pub from_top : (buffer_of m a).pointer ≡ 65535 → (buffer_of m a).end < 65536 → ((output_service codes m a q).effect.raised ≡ true) × ((output_service codes m a q).effect.sent ≡ true) × ((output_service codes m a q).effect.byte ≡ get LEFT (get_or m 0 0))
-  unfolding output_service stepped auto_plan byte_at half_at pick
-  from_top top word =
-      let next : next_of m a ≡ 0 = rw top in
-      let plan = planned_auto (ocw_of m a) q (fetched_of m a) (last_of m a) (special_in codes (fetched_of m a)) sending.clear sending.mode in
-      (first_ends (omega (arith, top, word)), ap (λ (p : Plan). p.sent) plan, ap (λ (p : Plan). p.byte) plan ∙ ap (λ (x : ℕ). byte_at (stepped m a) x) next ∙ ap (get LEFT) (other_word _ m (a + at_obp) _ 0 (λ e. omega (arith, e))))
-
 -- ---- the rule as it was
-
--- where OBP + 1 is below LOB or equal to it, it is the service by the rule before K2
-pub same_service : (codes : List Bool) (m : List ℕ) (a : ℕ) (q : Port) → (buffer_of m a).end < 65536 → (buffer_of m a).pointer + 1 ≤ (buffer_of m a).end → output_service codes m a q ≡ output_by at_end_was (special_in codes) m a q
-unfolding output_by
-same_service codes m a q word h = by_the_rules codes m a q ∙ rw (as_before (buffer_of m a).pointer (buffer_of m a).end word h)
 
 -- OBP 2003 with LOB 2003 in a block at word 64, in automatic mode
 abbrev pub short : Visit 64
@@ -188,10 +128,6 @@ short =
 pub short_open : Open (found 64 short)
 unfolding get
 short_open = record { sending = record { clear = refl; mode = refl }; word = lit< tt }
-
-pub short_ends : Done (leaves 64 short)
-unfolding run
-short_ends = output_ends 64 (found 64 short) (short ∷ []) short_open (refl, tt) (lit≤ tt)
 
 -- by the rule as it was OUTDONE was clear after it, and OBP past LOB
 pub short_ran_on : buffer_of (output_by at_end_was is_special short.memory 64 short.port).memory 64 ≡ record { control = 0o20000; pointer = 2004; end = 2003 }

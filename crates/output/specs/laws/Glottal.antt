@@ -1,9 +1,6 @@
 -- The glottal stop that is sent (document 01, Output 01; document 02, K5): octal 174, with its top bit or without, out of the buffer of an automatic output.
 --   Handed           a byte was handed over as it was fetched, and nothing but the buffer's end and a change of Device Status makes it done
---   hands            of any automatic output the fetched byte is handed over
---   ordinary         so a byte is that the unit's set calls ordinary, with a special request or without
---   glottal_passes   so the glottal stop is, where the set calls it ordinary: it stops nothing
---   glottal_stops    where the set calls it special and the request is on, it is done with it
+-- In proofs/laws/Glottal, since they rest on these: hands, ordinary, glottal_passes, glottal_stops.
 -- Not here: OCW as it is written, in Word; the buffer's end, in Ends.
 -- Assumes nothing.
 use Rattle.std.specs.Prelude.{◌≡◌, Bool, true, false, ◌||◌, List, ℕ, ◌+◌, ◌%◌, eqb, get_or}
@@ -31,28 +28,3 @@ pub record Handed (codes : List Bool) (m : List ℕ) (a : ℕ) (q : Port) : Type
   pub byte : (output_service codes m a q).effect.byte ≡ fetched_of m a
   pub interrupt : (output_service codes m a q).effect.raised ≡ (last_of m a || becomes_changed (ocw_of m a) q.devstatus)
   pub outdone : Placed m a → get OUTDONE (get_or (after codes m a q) (a + at_ocw) 0) ≡ bit (last_of m a || becomes_changed (ocw_of m a) q.devstatus)
-
-module _ (codes : List Bool) (m : List ℕ) (a : ℕ) (q : Port) (sending : Sending (ocw_of m a)) where
-  -- of an automatic output the byte that was fetched is handed over, special or not
-  pub hands : ((output_service codes m a q).effect.sent ≡ true) × ((output_service codes m a q).effect.byte ≡ fetched_of m a)
-  unfolding output_service stepped auto_plan
-  hands =
-      let plan = planned_auto (ocw_of m a) q (fetched_of m a) (last_of m a) (special_in codes (fetched_of m a)) sending.clear sending.mode in
-      (ap (λ (p : Plan). p.sent) plan, ap (λ (p : Plan). p.byte) plan)
-
-  pub ordinary : special_in codes (fetched_of m a) ≡ false → Handed codes m a q
-  ordinary s =
-      let raised : (output_service codes m a q).effect.raised ≡ (last_of m a || becomes_changed (ocw_of m a) q.devstatus) = raises codes m a q sending ∙ rw (s, and-false (eqb (get SPECIAL-REQUEST (ocw_of m a)) 1), or-false (last_of m a)) in
-      record {
-        sent = hands.0;
-        byte = hands.1;
-        interrupt = raised;
-        outdone = λ placed. ap (get OUTDONE) (ocw_after codes m a q placed) ∙ written_done (ocw_of m a) q.devstatus _ sending.clear ∙ ap bit raised;
-      }
-
-  -- the glottal stop, with a special request or without
-  pub glottal_passes : special_in codes 0o174 ≡ false → fetched_of m a % 128 ≡ 0o174 → Handed codes m a q
-  glottal_passes s e = ordinary (seven_bits codes (fetched_of m a) 0o174 e ∙ s)
-
-  pub glottal_stops : special_in codes 0o174 ≡ true → fetched_of m a % 128 ≡ 0o174 → get SPECIAL-REQUEST (ocw_of m a) ≡ 1 → (output_service codes m a q).effect.raised ≡ true
-  glottal_stops s e on = raises codes m a q sending ∙ rw (seven_bits codes (fetched_of m a) 0o174 e ∙ s, on, or-true (last_of m a))

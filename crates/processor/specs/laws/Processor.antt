@@ -3,15 +3,15 @@
 --   order_either                  what holds of the record itself and of the record after the order holds of the record that the call gives
 --   Keeps, reset_only, order_keeps   every order but reset leaves setting, position and ports as they were
 --   order_setting                 every order, reset among them, leaves the setting as it was
---   order_unread                  a unit with another set of special codes does the same (document 02, K5)
 --   order_stays_sound, -ports     every order leaves a sound record sound, and the array of ports as long as it was
 --   reset_is .. reset_bits        a unit after reset: at rest at port 0; each port's speed bits 000, its other control bits and its Device
 --                                 Status line kept
 --   stops, runs_on, runs_after    of a unit that runs: DOB and reset stop it, and no other order does
 --   dob_is, doc_is                DOB stops a unit, DOC sets it going
 --   dia_shows, start_is, dias_is   DIA shows what the unit's kind shows; START does what its kind does; DIAS is DIA, then START
---   start_clears, start_removes   START of an EDS-8 clears what DIA shows, and the flag; that of a Mighty Mux removes its oldest entry
 --   tick_on, tick_off             a tick with the clock on and with it off
+-- In proofs/laws/Processor, since they rest on these: order_keeps, order_unread, order_stays_sound, order_ports, runs_on, runs_after, start_clears,
+-- start_removes.
 -- Not here: laws of the interrupt side itself, in interrupt, laws/Interrupt; a run of many orders, in waiting.
 -- Assumes nothing.
 use Rattle.std.specs.Prelude.{◌≡◌, refl, Bool, true, false, not, List, [], ◌∷◌, map, ◌⊎◌, ℕ, zero, suc, ◌<◌, length, get_or}
@@ -36,9 +36,11 @@ use Rattle.unit.specs.Record.{no_port, port_at}
 use Rattle.unit.specs.Reply.{refused, accepted}
 use Rattle.unit.specs.Refusals.{refusal, of_unit}
 use Rattle.unit.specs.Sound.{Sound}
-use Rattle.unit.specs.laws.Sound.{sound_iff, sound_with}
+use Rattle.unit.specs.laws.Sound.{sound_with}
+use Rattle.unit.proofs.laws.Sound.{sound_iff}
 use Rattle.unit.specs.laws.Set.{chosen, refusal_unread, again, guarded_unread}
-use Rattle.unit.specs.laws.Replies.{guarded_refused, guarded_accepted, either_way}
+use Rattle.unit.specs.laws.Replies.{guarded_refused, guarded_accepted}
+use Rattle.unit.proofs.laws.Replies.{either_way}
 use Rattle.processor.specs.declared.orders.Order.{Order}
 use Rattle.processor.specs.declared.orders.Order.TheVariants.{Reset, Iopls, Start, Doc, Dob, Dia, Dias, Tick}
 use Rattle.processor.specs.Processor.{reset_port, switched, reset_unit, value_of, after, order, is_reset}
@@ -76,30 +78,6 @@ pub record Keeps (u v : Mux) : Type 0 where
 pub keeps_same : (u : Mux) → Keeps u u
 keeps_same u = record { setting = refl; pos = refl; port = refl; irq = λ e. e }
 
--- a tick leaves a sound interrupt side sound, with the clock on or off
-ticks : (clock : Bool) (i : Irq) → Interrupt.unsound i ≡ false → Interrupt.unsound (pick clock (Interrupt.ticked i) i) ≡ false
-unfolding pick
-ticks true i e = Irqs.ticked_sound i e
-ticks false i e = e
-
--- an order is the reset, or it keeps: the case analysis, once
-reset_or_keeps : (u : Mux) (o : Order) → (o ≡ Reset) ⊎ Keeps u (after o u)
-unfolding after
-reset_or_keeps u = each
-  where
-    switches : (runs clock : Bool) (irq : Irq) → (Interrupt.unsound u.irq ≡ false → Interrupt.unsound irq ≡ false) → Keeps u (switched u runs clock irq)
-    switches runs clock irq i = record { setting = refl; pos = refl; port = refl; irq = i }
-
-    each : (o : Order) → (o ≡ Reset) ⊎ Keeps u (after o u)
-    each Reset = inl refl
-    each Iopls = inr (switches _ _ _ (λ e. e))
-    each Start = inr (switches _ _ _ (Irqs.started_sound u.setting.kind u.irq))
-    each Doc = inr (switches _ _ _ (λ e. e))
-    each Dob = inr (switches _ _ _ (λ e. e))
-    each Dia = inr (keeps_same u)
-    each Dias = inr (switches _ _ _ (Irqs.started_sound u.setting.kind u.irq))
-    each Tick = inr (switches _ _ _ (ticks u.clock u.irq))
-
 -- reset is the one order that drops what is held
 pub reset_only : (o : Order) → is_reset o ≡ true → o ≡ Reset
 reset_only Reset e = refl
@@ -110,14 +88,6 @@ reset_only Dob e = absurd (true≢false (sym e))
 reset_only Dia e = absurd (true≢false (sym e))
 reset_only Dias e = absurd (true≢false (sym e))
 reset_only Tick e = absurd (true≢false (sym e))
-
--- every order but reset keeps setting, position and ports
-pub order_keeps : (u : Mux) (o : Order) → is_reset o ≡ false → Keeps u (order u o).mux
-order_keeps u o e = order_either (Keeps u) u o (keeps_same u) (go (reset_or_keeps u o))
-  where
-    go : (o ≡ Reset) ⊎ Keeps u (after o u) → Keeps u (after o u)
-    go (inl r) = absurd (true≢false (sym (ap is_reset r) ∙ e))
-    go (inr k) = k
 
 -- reset keeps the setting too, the set of special codes in it
 pub order_setting : (u : Mux) (o : Order) → (order u o).mux.setting ≡ u.setting
@@ -134,44 +104,9 @@ order_setting u o = order_either (λ v. v.setting ≡ u.setting) u o refl (by o)
     by Dias = refl
     by Tick = refl
 
--- with another set of special codes in the record an order does the same, and the set is kept
-after_unread : (codes : List Bool) (u : Mux) (o : Order) → after o (chosen codes u) ≡ chosen codes (after o u)
-unfolding after
-after_unread codes u Reset = refl
-after_unread codes u Iopls = refl
-after_unread codes u Start = refl
-after_unread codes u Doc = refl
-after_unread codes u Dob = refl
-after_unread codes u Dia = refl
-after_unread codes u Dias = refl
-after_unread codes u Tick = refl
-
-pub order_unread : (codes : List Bool) (u : Mux) (o : Order) → order (chosen codes u) o ≡ again codes (order u o)
-unfolding order
-order_unread codes u o =
-    rw (refusal_unread codes codes (of_unit u), after_unread codes u o) (guarded_unread codes (refusal (of_unit u)) u (accepted (value_of o u.setting.kind u.irq) (after o u)))
-
 -- what keeps is as sound as it was
 pub keeps_sound : (u v : Mux) → Keeps u v → Sound u → Sound v
 keeps_sound u v k s = sound_with u v k.setting (rw (k.pos, k.setting) s.position) k.irq s
-
--- every order leaves a sound record sound
-pub order_stays_sound : (u : Mux) (o : Order) → Sound u → Sound (order u o).mux
-unfolding after
-order_stays_sound u o s = order_either Sound u o s (go (reset_or_keeps u o))
-  where
-    go : (o ≡ Reset) ⊎ Keeps u (after o u) → Sound (after o u)
-    go (inl r) = rw r (sound_with u (reset_unit u) refl s.setting.size.some_port (Irqs.cleared_sound u.irq) s)
-    go (inr k) = keeps_sound u (after o u) k s
-
--- every order leaves the array of ports as long as it was
-pub order_ports : (u : Mux) (o : Order) → length (order u o).mux.port ≡ length u.port
-unfolding after
-order_ports u o = order_either (λ v. length v.port ≡ length u.port) u o refl (go (reset_or_keeps u o))
-  where
-    go : (o ≡ Reset) ⊎ Keeps u (after o u) → length (after o u).port ≡ length u.port
-    go (inl r) = rw r (length-map u.port reset_port)
-    go (inr k) = ap length k.port
 
 -- ---- reset
 
@@ -239,25 +174,6 @@ stops Dia = false
 stops Dias = false
 stops Tick = false
 
-after_runs : (u : Mux) (o : Order) → u.runs ≡ true → (after o u).runs ≡ not (stops o)
-unfolding after
-after_runs u Reset r = refl
-after_runs u Iopls r = r
-after_runs u Start r = r
-after_runs u Doc r = refl
-after_runs u Dob r = refl
-after_runs u Dia r = r
-after_runs u Dias r = r
-after_runs u Tick r = r
-
--- only they stop a unit that runs
-pub runs_on : (u : Mux) (o : Order) → stops o ≡ false → u.runs ≡ true → (order u o).mux.runs ≡ true
-runs_on u o e r = order_either (λ v. v.runs ≡ true) u o r (after_runs u o r ∙ ap not e)
-
--- and they do stop it, where the record is sound
-pub runs_after : (u : Mux) (o : Order) → Sound u → u.runs ≡ true → (order u o).mux.runs ≡ not (stops o)
-runs_after u o s r = rw (order_sound u o s) (after_runs u o r)
-
 -- DOB is taken by a sound unit, and stops it
 pub dob_is : (u : Mux) → Sound u → order u Dob ≡ accepted 0 (switched u false u.clock u.irq)
 unfolding after
@@ -285,34 +201,11 @@ pub start_is : (u : Mux) → Sound u → order u Start ≡ accepted 0 (switched 
 unfolding after
 start_is u s = order_sound u Start s
 
--- what DIA shows after it
-start_shows : (u : Mux) → Sound u → (order (order u Start).mux Dia).reply.value ≡ Interrupt.shown u.setting.kind (Interrupt.started u.setting.kind u.irq)
-start_shows u s =
-    ap (λ r. r.reply.value) (dia_shows (order u Start).mux (order_stays_sound u Start s))
-    ∙ ap (λ r. Interrupt.shown r.mux.setting.kind r.mux.irq) (start_is u s)
-
--- START of an EDS-8 clears what DIA shows, and the flag
-pub start_clears : (u : Mux) → Sound u → u.setting.kind ≡ Eds8 → Calm (order u Start).mux
-start_clears u s e =
-    record {
-      shows = start_shows u s ∙ rw e (Irqs.quiet_shows u.irq);
-      flag = rw (start_is u s, e) (Irqs.quiet_flag u.irq);
-    }
-
 -- START of a Mighty Mux removes its oldest entry: bit 0 is cleared, and the flag is on exactly where entries remain
 pub record Shorter (u v : Mux) : Type 0 where
   pub irq : v.irq ≡ Interrupt.started MightyMux u.irq
   pub clock : get REAL-TIME (order v Dia).reply.value ≡ 0
   pub flag : v.irq.flag ≡ remain v.irq
-
-pub start_removes : (u : Mux) → Sound u → u.setting.kind ≡ MightyMux → Shorter u (order u Start).mux
-start_removes u s e =
-    let f : (order u Start).mux.irq ≡ Interrupt.started MightyMux u.irq = ap (λ r. r.mux.irq) (start_is u s) ∙ rw e in
-    record {
-      irq = f;
-      clock = ap (get REAL-TIME) (start_shows u s ∙ rw e) ∙ start_clock MightyMux u.irq;
-      flag = rw f (start_flag u.irq);
-    }
 
 -- DIAS answers what DIA answers, and leaves what START leaves
 pub dias_is : (u : Mux) → order u Dias ≡ record { reply = (order u Dia).reply; mux = (order u Start).mux }

@@ -21,7 +21,7 @@ use Rattle.unit.specs.Reply.{World, world, Outcome}
 use Rattle.unit.specs.Refusals.{WORDS, BAD-MEMORY}
 use Rattle.calls.specs.Calls.{step}
 use Rattle.calls.specs.Events as Calls
-use Rattle.calls.specs.laws.Refusals.{step_refuses}
+use Rattle.calls.proofs.laws.Refusals.{step_refuses}
 use Rattle.recording.specs.declared.event.Event.{Event}
 use Rattle.recording.specs.Event.{event_code}
 use Rattle.recording.specs.Pass.{Kept, kept}

@@ -3,7 +3,7 @@ use mathlib.Core.Path.{sym, ◌∙◌}
 use borrow.Author.Tests.{eq-eqb, ne_eqb}
 use borrow.Author.Rules.{rules}
 use Rattle.ground.specs.Choose.{pick}
-use Rattle.unit.specs.laws.Sound.{inspection_iff}
+use Rattle.unit.proofs.laws.Sound.{inspection_iff}
 use Rattle.scan.specs.Scan.{inspection}
 use Rattle.scan.proofs.inspect.Goals as goal
 

@@ -3,7 +3,7 @@
 --   by_the_services        by today's, with the unit's own set, it is today's inspection
 --   service_was             the services before K5: by the rule of 1974, without a set
 --   same_services          services that do the same at the port whose turn it is make the same inspection
---   as_before              so by the 1974 set every inspection answers, and leaves record and memory, as it did without a set
+-- In proofs/laws/Set, since they rest on these: as_before.
 -- Not here: the services themselves, in laws/Set of input and of output; a sweep, in laws/Set of sweep.
 -- Assumes nothing.
 use Rattle.std.specs.Prelude.{◌≡◌, refl, Bool, List, ℕ, eqb}
@@ -25,7 +25,7 @@ use Rattle.input.specs.laws.Rules.{input_by}
 use Rattle.input.specs.laws.Set.{default_same as input-same}
 use Rattle.output.specs.Output.{output_service}
 use Rattle.output.specs.laws.Rules.{output_by}
-use Rattle.output.specs.laws.Set.{default_same as output-same}
+use Rattle.output.proofs.laws.Set.{default_same as output-same}
 use Rattle.scan.specs.Turn.{service, Turning, turning, served_as, served_turn, idle_turn, turn}
 use Rattle.scan.specs.Scan.{looked_at, scanned, inspection}
 
@@ -60,18 +60,3 @@ service_was Output m a q = output_by at_end is_special m a q
 pub same_services : (x y : Services) (u : Mux) (m : List ℕ) → ((k : Service) → x k m (block_at u.setting u.pos) (port_at u u.pos) ≡ y k m (block_at u.setting u.pos) (port_at u u.pos)) → inspection_by x u m ≡ inspection_by y u m
 unfolding inspection_by turn_by
 same_services x y u m h = rw (h Input, h Output)
-
--- by the 1974 set an inspection is what it was without a set
-pub as_before : (u : Mux) (m : List ℕ) → u.setting.special ≡ set1974 → inspection u m ≡ inspection_by service_was u m
-unfolding service service_was
-as_before u m e = by_the_services u m ∙ same_services (λ k. service k u.setting.special) service_was u m same
-  where
-    a : ℕ
-    a = block_at u.setting u.pos
-
-    q : Port
-    q = port_at u u.pos
-
-    same : (k : Service) → service k u.setting.special m a q ≡ service_was k m a q
-    same Input = ap (λ (codes : List Bool). input_service codes m a q) e ∙ input-same m a q
-    same Output = ap (λ (codes : List Bool). output_service codes m a q) e ∙ output-same m a q

@@ -3,7 +3,7 @@ use mathlib.Core.Path.{sym, ◌∙◌}
 use borrow.Author.Tests.{eq-eqb, ne_eqb}
 use borrow.Author.Rules.{rules}
 use Rattle.ground.specs.Choose.{pick}
-use Rattle.unit.specs.laws.Sound.{sweep_iff}
+use Rattle.unit.proofs.laws.Sound.{sweep_iff}
 use Rattle.sweep.specs.Sweep.{sweep}
 use Rattle.sweep.proofs.sweep.Goals as goal
 

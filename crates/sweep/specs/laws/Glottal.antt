@@ -1,5 +1,6 @@
 -- The glottal stop in a sweep (document 01, Sweep): the interrupt that reports it ends the sweep.
 --   Swept, glottal_swept   a sweep that starts where the glottal stop waits is the one inspection that reports it
+-- In proofs/laws/Glottal, since they rest on these: glottal_swept.
 -- Not here: that inspection, in laws/Glottal of scan.
 -- Assumes nothing.
 use Rattle.std.specs.Prelude.{◌≡◌, refl, List, ℕ, suc}
@@ -9,7 +10,8 @@ use Rattle.unit.specs.Reply.{Outcome}
 use Rattle.unit.specs.Refusals.{refusal, of_sweep}
 use Rattle.input.specs.laws.Glottal.{Apart}
 use Rattle.scan.specs.Scan.{inspection}
-use Rattle.scan.specs.laws.Glottal.{Waits, Delivered, glottal_seen}
+use Rattle.scan.specs.laws.Glottal.{Waits, Delivered}
+use Rattle.scan.proofs.laws.Glottal.{glottal_seen}
 use Rattle.sweep.specs.Sweep.{entered, going, set_out, sweep}
 use Rattle.sweep.specs.laws.Sweep.{sweep_raised, sweep_accepted}
 
@@ -20,11 +22,3 @@ pub record Swept (u : Mux) (m : List ℕ) (p code : ℕ) (xs : List ℕ) (o : Ou
   pub list : o.list ≡ xs
   pub world : o.world ≡ (inspection u m).world
   pub delivered : Delivered u m p code (inspection u m)
-
--- however many more inspections it was to make, if the unit's set calls the glottal stop special or it has an error
-pub glottal_swept : (u : Mux) (m : List ℕ) (n : ℕ) (xs : List ℕ) (p code : ℕ) → Apart u.setting.special code → Waits u m p code → refusal (of_sweep u m (suc n) xs) ≡ 0 → Swept u m p code xs (sweep u m (suc n) xs)
-unfolding going entered pick bit
-glottal_swept u m n xs p code s h e =
-    let d = glottal_seen u m p code s h in
-    rw (sweep_accepted u m (suc n) xs e, sweep_raised n (set_out u m xs) h.runs d.one_interrupt)
-    (record { made = refl; used = rw d.no_echo; list = rw d.no_echo; world = refl; delivered = d })

@@ -1,13 +1,9 @@
 -- Where the area ends, and what taking out its check changed: nothing (document 02, K10).
---   rows_end                 where rows 1, 11 and 4 do not apply the area ends at or before word 32768; rows 2 and 3 are not asked
---   taken_end                so it does of every setting that setup takes
 --   five, rows_with_five       row 5, and setup's table with it, as they were, without K7's row: for comparisons alone, these and K1's
 --   order_was                the order of that table's numbers
 --   five_iff                 that row applied exactly where the area ends past word 32768
---   five_idle, five_never    with it the table gives the number that it gives without it, and never 5
---   setup_unchanged          every setup of an EDS-8, of which K7 changed nothing, answers as it did, number and record
---   sound_unchanged, calls_unchanged   row 6 refuses the same records of that kind, and every other call on them is refused as it was
 --   Rests, rests             what this rests on, computed: without row 11, 4 or 1 an area could end past word 32768; and that one may end there
+-- In proofs/laws/Area, since they rest on these: rows_end, taken_end, five_idle, five_never, setup_unchanged, sound_unchanged, calls_unchanged.
 -- Not here: the same in numbers, in Sound; that no call is refused with 5, in Refusals.
 -- Assumes nothing.
 use Rattle.std.specs.Prelude.{◌≡◌, refl, true, false, List, [], ◌∷◌, ◌++◌, map, ◌↔◌, ℕ, ◌+◌, ◌*◌, ◌<◌, ◌≤◌, eqb, ltb}
@@ -21,20 +17,9 @@ use Rattle.unit.specs.declared.mux.Mux.{Mux}
 use Rattle.unit.specs.Record.{no_setting}
 use Rattle.unit.specs.Refusals.{WORDS, BAD-BLOCK, CROSSES, TOO-HIGH, bad_block, bad_ports, misaligned, too_high, bad_location, crosses, size_rows, base_rows, area_rows, setting_rows, unsound, Given, rows_of, call_rows, table_of, refusal, of_setup}
 use Rattle.unit.specs.Setup.{setup}
-use Rattle.unit.specs.laws.Sound.{good_block, low_base, good_area, setup_iff, area_ends, fits_end}
-use Rattle.unit.specs.laws.Location.{rows_before, eds8_number}
-use Rattle.unit.specs.laws.Tables.{setup_by, unsound_by, call_rows_by, same_setup, alike_by, OfEds8, same_sound, same_calls}
-
--- ---- where the area ends
-
--- rows 1, 11 and 4 do not apply: the area ends at or before word 32768
-pub rows_end : (s : Setting) → bad_block s.block ≡ false → too_high s.base ≡ false → crosses s.block s.ports s.base ≡ false → s.base + s.ports * s.block ≤ WORDS
-rows_end s one eleven four =
-    area_ends s.ports s.base s.block ((good_block _).0 one) ((low_base _).0 eleven) ((good_area _ _ _).0 four)
-
--- so it does of every setting that setup takes
-pub taken_end : (s : Setting) → refusal (of_setup s) ≡ 0 → s.base + s.ports * s.block ≤ WORDS
-taken_end s e = fits_end s ((setup_iff s).0 e)
+use Rattle.unit.specs.laws.Sound.{good_block, low_base, good_area, area_ends}
+use Rattle.unit.specs.laws.Location.{rows_before}
+use Rattle.unit.specs.laws.Tables.{setup_by, unsound_by, call_rows_by, same_setup, alike_by, OfEds8}
 
 -- ---- the table as it was
 
@@ -55,37 +40,6 @@ order_was s = refl
 pub five_iff : (s : Setting) → ((five s).applies ≡ true) ↔ (32768 < s.base + s.ports * s.block)
 unfolding five
 five_iff s = (λ e. ltb-true 32768 _ e, λ h. lt-ltb 32768 _ h)
-
--- ---- what changed
-
--- the row never was the first that applies
-pub five_idle : (s : Setting) → first_of (rows_with_five s) ≡ first_of (rows_before s)
-unfolding rows_with_five five rows_before size_rows area_rows
-five_idle s = first_idle (rows_before s) (five s) idle
-  where
-    idle : first_of (rows_before s) ≡ 0 → ltb 32768 (s.base + s.ports * s.block) ≡ false
-    idle e = let p = (first_zero (rows_before s) refl).0 e in le-ltb 32768 _ (rows_end s p.0 p.1.1.1.0 p.1.1.1.1.0)
-
--- so no setting had the number 5
-pub five_never : (s : Setting) → first_of (rows_with_five s) ≡ 5 → ⊥
-unfolding rows_before size_rows area_rows
-five_never s e = never (rows_before s) 5 refl (sym (five_idle s) ∙ e)
-
--- an EDS-8 has the number that it had
-same_number : (s : Setting) → s.kind ≡ Eds8 → refusal (of_setup s) ≡ first_of (rows_with_five s)
-same_number s k = eds8_number s k ∙ sym (five_idle s)
-
--- its setup answers as it did, number and record
-pub setup_unchanged : (s : Setting) → s.kind ≡ Eds8 → setup s ≡ setup_by rows_with_five s
-setup_unchanged s k = same_setup rows_with_five s (same_number s k)
-
--- row 6 refuses the same records of that kind
-pub sound_unchanged : (u : Mux) → u.setting.kind ≡ Eds8 → unsound u ≡ unsound_by rows_with_five u
-sound_unchanged = same_sound rows_with_five (alike_by rows_with_five same_number)
-
--- so every call on such a record, which is no setup, is refused as it was
-pub calls_unchanged : (g : Given) → g.setting ≡ none → OfEds8 g → refusal g ≡ first_of (call_rows_by rows_with_five g)
-calls_unchanged = same_calls rows_with_five (alike_by rows_with_five same_number)
 
 -- ---- what it rests on
 

@@ -1,8 +1,7 @@
 -- The kind of unit in a setting and in a record (document 02, K6): setup keeps it.
 --   of_kind             a setting with another kind, all else the same
---   setup_kind         a setup that is not refused makes a record of the kind that it was given
---   refused_kind       a refused one gives the record of zeros, which is an EDS-8's
 --   overfull           every call on a record with more than 40 entries is refused with 6, of either kind
+-- In proofs/laws/Kind, since they rest on these: setup_kind, refused_kind.
 -- Not here: the one row that asks it, in Location; that no other call changes it, in calls, laws/Set; what a kind does, in interrupt.
 -- Assumes nothing.
 use Rattle.std.specs.Prelude.{◌≡◌, refl, Bool, true, false, not, ◌||◌, ◌<◌, eqb, leb}
@@ -19,19 +18,10 @@ use Rattle.unit.specs.declared.reply.Replied.{Replied}
 use Rattle.unit.specs.Refusals.{UNSOUND, setting_rows, unsound, Given, refusal, of_setup}
 use Rattle.unit.specs.Setup.{setup}
 use Rattle.unit.specs.laws.Refusals.{unsound_first}
-use Rattle.unit.specs.laws.Replies.{setup_accepted, setup_refused}
 
 -- the setting with another kind
 abbrev pub of_kind : Kind → Setting → Setting
 of_kind k s = record { kind = k; block = s.block; ports = s.ports; base = s.base; special = s.special }
-
--- the record has the kind that setup was given
-pub setup_kind : (s : Setting) → refusal (of_setup s) ≡ 0 → (setup s).mux.setting.kind ≡ s.kind
-setup_kind s e = ap (λ (r : Replied). r.mux.setting.kind) (setup_accepted s e)
-
--- a refused setup gives zeros, the kind among them
-pub refused_kind : (s : Setting) → (refusal (of_setup s) ≡ 0 → ⊥) → (setup s).mux.setting.kind ≡ Eds8
-refused_kind s n = rw (setup_refused s n)
 
 -- a call on a record with more than 40 entries
 pub overfull : (g : Given) (u : Mux) → g.setting ≡ none → g.unit ≡ some u → DEPTH < u.irq.fill → refusal g ≡ UNSOUND

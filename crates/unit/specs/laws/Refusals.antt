@@ -6,6 +6,7 @@
 --   by_setting, setting_unsound, setting_passed   row 6 has no list of its own: a record is unsound whose setting setup would refuse, whatever the row; of another the rest is asked
 --   unsound_first                every call on an unsound record is refused with 6, before any other number
 --   inspection_refusal, sweep_refusal   a call's number is that of the smaller call, and then its own rows
+-- In proofs/laws/Refusals, since they rest on these: setting_unsound, setting_passed.
 -- Not here: the table itself, in specs/Refusals; what refusal 0 says in numbers, in Sound.
 -- Assumes nothing.
 use Rattle.std.specs.Prelude.{◌≡◌, refl, Bool, true, false, not, ◌||◌, List, [], ◌∷◌, ◌++◌, map, ◌↔◌, ℕ, eqb, leb, ltb, length}
@@ -73,14 +74,6 @@ by_area s e f = after_size s e ∙ first_then (base_rows s) (area_rows s) refl f
 pub by_setting : (u : Mux) (t : Bool) → eqb (first_of (setting_rows u.setting)) 0 ≡ t → unsound u ≡ (not t || (leb u.setting.ports u.pos || Interrupt.unsound u.irq))
 unfolding unsound
 by_setting u t e = ap (λ b. not b || (leb u.setting.ports u.pos || Interrupt.unsound u.irq)) e
-
--- a record whose setting setup would refuse is unsound
-pub setting_unsound : (u : Mux) → (refusal (of_setup u.setting) ≡ 0 → ⊥) → unsound u ≡ true
-setting_unsound u n = by_setting u false (ne_eqb _ _ (λ e. n (setup_refusal u.setting ∙ e)))
-
--- of another its position and its interrupt side are asked
-pub setting_passed : (u : Mux) → refusal (of_setup u.setting) ≡ 0 → unsound u ≡ (leb u.setting.ports u.pos || Interrupt.unsound u.irq)
-setting_passed u e = by_setting u true (eq-eqb _ _ (sym (setup_refusal u.setting) ∙ e))
 
 -- every call on an unsound record is refused with 6, whatever else it is given
 pub unsound_first : (g : Given) (u : Mux) → g.setting ≡ none → g.unit ≡ some u → unsound u ≡ true → refusal g ≡ UNSOUND

@@ -1,9 +1,9 @@
 -- The number of each answer; what a call leaves, refused or not (document 01, below the table of refusals).
 --   turn_numbers                 every answer of an inspection with its number
 --   guarded_refused, -accepted   a refused call gives its number, 0 and the same record; another what it does
---   either_way                   what holds of the record itself and of the record after holds of what a call leaves
 --   Answered, guarded_answers    a reply that has the number k, and keeps the record where k is a refusal
 --   setup_accepted, -refused     of setup: a fresh unit, or the number and the record of zeros
+-- In proofs/laws/Replies, since they rest on these: either_way, guarded_answers, setup_accepted, setup_refused.
 -- Not here: what a reply is, in specs/Reply; that every call answers so, in calls, laws/Refusals.
 -- Assumes nothing.
 use Rattle.std.specs.Prelude.{◌≡◌, refl, [], ◌∷◌, map, ℕ, eqb}
@@ -34,33 +34,7 @@ pub guarded_accepted : (k : ℕ) (u : Mux) (r : Replied) → k ≡ 0 → guarded
 unfolding guarded
 guarded_accepted k u r e = pick_true (eqb k 0) r (refused k u) (eq-eqb k 0 e)
 
--- what holds of the record itself and of the record after a call that is done holds of the record that the call leaves
-pub either_way : (C : Mux → Type 0) (k : ℕ) (u : Mux) (r : Replied) → C u → C r.mux → C (guarded k u r).mux
-either_way C k u r a b = go (ℕ_discrete k 0)
-  where
-    go : Dec (k ≡ 0) → C (guarded k u r).mux
-    go (yes e) = rw (guarded_accepted k u r e) b
-    go (no h) = rw (guarded_refused k u r h) a
-
 -- a reply that has the number k, and keeps the record u where k is a refusal
 pub record Answered (k : ℕ) (u : Mux) (r : Replied) : Type 0 where
   pub number : r.reply.code ≡ k
   pub keeps : (k ≡ 0 → ⊥) → r ≡ refused k u
-
--- a call refused by its number is such a reply
-pub guarded_answers : (k : ℕ) (u : Mux) (r : Replied) → r.reply.code ≡ 0 → Answered k u (guarded k u r)
-guarded_answers k u r z = record { number = go (ℕ_discrete k 0); keeps = guarded_refused k u r }
-  where
-    go : Dec (k ≡ 0) → (guarded k u r).reply.code ≡ k
-    go (yes e) = rw (guarded_accepted k u r e) (rw (z, e))
-    go (no h) = rw (guarded_refused k u r h)
-
--- a setup that is taken makes a fresh unit of that setting
-pub setup_accepted : (s : Setting) → refusal (of_setup s) ≡ 0 → setup s ≡ accepted 0 (fresh s)
-unfolding setup
-setup_accepted s e = guarded_accepted (refusal (of_setup s)) no_mux (accepted 0 (fresh s)) e
-
--- a refused setup gives its number and the record of zeros
-pub setup_refused : (s : Setting) → (refusal (of_setup s) ≡ 0 → ⊥) → setup s ≡ refused (refusal (of_setup s)) no_mux
-unfolding setup
-setup_refused s h = guarded_refused (refusal (of_setup s)) no_mux (accepted 0 (fresh s)) h

@@ -1,14 +1,13 @@
 -- Refusal 0 is soundness (document 01, the table of refusals).
 --   good_block .. good_area  each row of the setting, read in numbers
 --   size_fits .. fits_iff    each part of setup's table gives 0 exactly where its part of Fits holds, and so does the whole
---   sound_iff                refusal 0 of a record is exactly what Sound says
---   port_iff .. sweep_iff    refusal 0 of each other kind of call
 --   sound_with               what keeps the setting, with a position below P and a sound interrupt side, keeps soundness: the one law for every change of a record
---   fresh_sound              what setup makes is sound; the record of zeros is not
 --   by_block                 what holds at each block size holds of any
 --   sizes                    the sizes that pass, in numbers
 --   area_ends, fits_end      where the area ends: at or before word 32768
 --   Placed, block_inside     a block in the host's memory; a port's control block is one
+-- In proofs/laws/Sound, since they rest on these: fits_iff, setup_iff, unsound_iff, sound_iff, port_iff, inspection_iff, sweep_iff, fresh_sound, fits_end,
+-- block_inside, port_below.
 -- Not here: what fits and what is sound, in specs/Sound; what a refused call leaves, in Replies.
 -- Assumes nothing.
 use Rattle.std.specs.Prelude.{◌≡◌, refl, true, false, not, ◌||◌, List, ◌++◌, ◌↔◌, ◌⊎◌, ℕ, ◌+◌, ◌-◌, ◌*◌, ◌/◌, ◌%◌, ◌<◌, ◌≤◌, eqb, leb, ltb, length}
@@ -26,7 +25,7 @@ use Rattle.unit.specs.declared.mux.Mux.{Mux}
 use Rattle.unit.specs.Record.{fresh, no_mux, block_at}
 use Rattle.unit.specs.Refusals.{WORDS, MOST-PORTS, MOST-INSPECTIONS, AREA-STEP, bad_block, bad_ports, misaligned, too_high, bad_location, crosses, size_rows, base_rows, area_rows, setting_rows, unsound, rows_of, call_rows, table_of, refusal, of_setup, of_unit, of_port, of_inspection, of_sweep}
 use Rattle.unit.specs.Sound.{IsBlock, eight, sixteen, thirty_two, SizeFits, BaseFits, AreaFits, Fits, Sound}
-use Rattle.unit.specs.laws.Refusals.{setup_refusal, setting_unsound, setting_passed}
+use Rattle.unit.specs.laws.Refusals.{setup_refusal}
 
 -- ---- the rows, read in numbers
 
@@ -109,59 +108,7 @@ area_fits s =
       λ h. z.1 ((good_area _ _ _).1 h.one, tt),
     )
 
--- no row of setup's table applies exactly where the setting fits
-pub fits_iff : (s : Setting) → (first_of (setting_rows s) ≡ 0) ↔ Fits s
-unfolding setting_rows size_rows base_rows
-fits_iff s =
-    let z = first_both (size_rows s) (base_rows s ++ area_rows s) refl in
-    let y = first_both (base_rows s) (area_rows s) refl in (
-      λ e. let p = z.0 e in
-          let q = y.0 p.1 in
-          record { size = (size_fits s).0 p.0; base = (base_fits s).0 q.0; area = (area_fits s).0 q.1 },
-      λ h. z.1 ((size_fits s).1 h.size, y.1 ((base_fits s).1 h.base, (area_fits s).1 h.area)),
-    )
-
--- a setup that is not refused
-pub setup_iff : (s : Setting) → (refusal (of_setup s) ≡ 0) ↔ Fits s
-setup_iff s = (λ e. (fits_iff s).0 (sym (setup_refusal s) ∙ e), λ h. setup_refusal s ∙ (fits_iff s).1 h)
-
--- ---- the record
-
--- the test of row 6 is false exactly where the record is sound
-pub unsound_iff : (u : Mux) → (unsound u ≡ false) ↔ Sound u
-unsound_iff u = (to (ℕ_discrete (refusal (of_setup u.setting)) 0), from)
-  where
-    to : Dec (refusal (of_setup u.setting) ≡ 0) → unsound u ≡ false → Sound u
-    to (yes z) e =
-        let q = or-false (leb u.setting.ports u.pos) (Interrupt.unsound u.irq) (sym (setting_passed u z) ∙ e) in
-        record { setting = (setup_iff u.setting).0 z; position = leb-false _ _ q.0; irq = q.1 }
-    to (no n) e = absurd (true≢false (sym (setting_unsound u n) ∙ e))
-
-    from : Sound u → unsound u ≡ false
-    from h = setting_passed u ((setup_iff u.setting).1 h.setting) ∙ both_false _ _ (lt-leb _ _ h.position) h.irq
-
 -- ---- refusal 0 of each kind of call
-
--- a call on the record: refused exactly where the record is unsound
-pub sound_iff : (u : Mux) → (refusal (of_unit u) ≡ 0) ↔ Sound u
-unfolding refusal table_of rows_of call_rows asked
-sound_iff u =
-    let z = first_zero (call_rows (of_unit u)) refl in
-    (λ e. (unsound_iff u).0 (z.0 e).0, λ h. z.1 ((unsound_iff u).1 h, (refl, (refl, (refl, (refl, tt))))))
-
--- a call on a port: the record is sound, and the port is one of its own
-pub port_iff : (u : Mux) (p : ℕ) → (refusal (of_port u p) ≡ 0) ↔ (Sound u × (p < u.setting.ports))
-unfolding refusal table_of rows_of call_rows asked
-port_iff u p =
-    let z = first_zero (call_rows (of_port u p)) refl in
-    (λ e. let r = z.0 e in ((unsound_iff u).0 r.0, leb-false _ _ r.1.1.0), λ h. z.1 ((unsound_iff u).1 h.0, (refl, (lt-leb _ _ h.1, (refl, (refl, tt))))))
-
--- an inspection: the record is sound, and the memory has 32,768 words
-pub inspection_iff : (u : Mux) (m : List ℕ) → (refusal (of_inspection u m) ≡ 0) ↔ (Sound u × (length m ≡ WORDS))
-unfolding refusal table_of rows_of call_rows asked
-inspection_iff u m =
-    let z = first_zero (call_rows (of_inspection u m)) refl in
-    (λ e. let r = z.0 e in ((unsound_iff u).0 r.0, eqb-true _ _ (not-false _ r.1.0)), λ h. z.1 ((unsound_iff u).1 h.0, (ap not (eq-eqb _ _ h.1), (refl, (refl, (refl, tt))))))
 
 -- a sweep: as an inspection, with at most 4,096 inspections and a list place for each
 pub record SweepTaken (u : Mux) (m : List ℕ) (n : ℕ) (xs : List ℕ) : Type 0 where
@@ -170,29 +117,11 @@ pub record SweepTaken (u : Mux) (m : List ℕ) (n : ℕ) (xs : List ℕ) : Type 
   pub few : n ≤ MOST-INSPECTIONS
   pub places : n ≤ length xs
 
-pub sweep_iff : (u : Mux) (m : List ℕ) (n : ℕ) (xs : List ℕ) → (refusal (of_sweep u m n xs) ≡ 0) ↔ SweepTaken u m n xs
-unfolding refusal table_of rows_of call_rows asked
-sweep_iff u m n xs =
-    let z = first_zero (call_rows (of_sweep u m n xs)) refl in (
-      λ e. let r = z.0 e in
-          record {
-            sound = (unsound_iff u).0 r.0;
-            words = eqb-true _ _ (not-false _ r.1.0);
-            few = ltb-false _ _ r.1.1.1.0;
-            places = ltb-false _ _ r.1.1.1.1.0;
-          },
-      λ h. z.1 ((unsound_iff u).1 h.sound, (ap not (eq-eqb _ _ h.words), (refl, (le-ltb _ _ h.few, (le-ltb _ _ h.places, tt))))),
-    )
-
 -- ---- the one law for every change of a record
 
 -- what keeps the setting, has its position below P and a sound interrupt side is as sound as it was
 pub sound_with : (u v : Mux) → v.setting ≡ u.setting → v.pos < v.setting.ports → (Interrupt.unsound u.irq ≡ false → Interrupt.unsound v.irq ≡ false) → Sound u → Sound v
 sound_with u v e h i s = record { setting = rw e s.setting; position = h; irq = i s.irq }
-
--- a fresh unit is sound
-pub fresh_sound : (s : Setting) → refusal (of_setup s) ≡ 0 → Sound (fresh s)
-fresh_sound s e = let f = (setup_iff s).0 e in record { setting = f; position = f.size.some_port; irq = Irq.fresh_sound }
 
 -- the record of zeros is unsound
 pub zeros_unsound : Sound no_mux → ⊥
@@ -230,23 +159,7 @@ Ends n a b = a ≤ 32767 → a / (128 * b) ≡ (a + n * b - 1) / (128 * b) → a
 pub area_ends : (n a b : ℕ) → IsBlock b → Ends n a b
 area_ends n a = by_block (Ends n a) (λ l o. omega arith) (λ l o. omega arith) (λ l o. omega arith)
 
--- the area of a setting that fits ends in the memory
-pub fits_end : (s : Setting) → Fits s → s.base + s.ports * s.block ≤ WORDS
-fits_end s f = area_ends s.ports s.base s.block f.size.block f.base.low f.area.one
-
 -- the host's memory with a whole block at the word a
 pub record Placed (m : List ℕ) (a : ℕ) : Type 0 where
   pub words : length m ≡ WORDS
   pub inside : a + 8 ≤ WORDS
-
--- every port of a setting that fits has eight words of control block in the memory
-pub block_inside : (s : Setting) (p : ℕ) → Fits s → p < s.ports → block_at s p + 8 ≤ 32768
-unfolding block_at
-block_inside s p f h =
-    omega (arith, mul-le-mul_right s.block h, fits_end s f, block_bounds s.block f.size.block)
-
--- a port number that is not refused is a place of the record's array
-pub port_below : (u : Mux) (p : ℕ) → refusal (of_port u p) ≡ 0 → p < 128
-port_below u p e =
-    let h = (port_iff u p).0 e in
-    omega (arith, h.0.setting.size.few_ports, h.1)

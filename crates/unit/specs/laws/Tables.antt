@@ -3,7 +3,7 @@
 --   same_setup                       rows that give a setting the number that it has answer its setup as it is answered
 --   Alike, alike_by                  rows that let the same settings of an EDS-8 pass as today's: so they do where they give each the number that it has
 --   OfEds8                           a call on an EDS-8's record
---   same_sound, same_calls           such rows refuse the same records of that kind, and every call on them, which is no setup, by the same number
+-- In proofs/laws/Tables, since they rest on these: same_sound, same_calls.
 -- Not here: rows as they were, in Location, Area and Base.
 -- Assumes nothing.
 use Rattle.std.specs.Prelude.{◌≡◌, Bool, not, ◌||◌, List, ◌∷◌, ℕ, eqb, leb, drop}
@@ -56,20 +56,3 @@ alike_by was same s k = ap (λ (n : ℕ). eqb n 0) (sym (setup_refusal s) ∙ sa
 -- a call whose record, if it has one, is an EDS-8's
 abbrev pub OfEds8 : Given → Type 0
 OfEds8 g = (u : Mux) → g.unit ≡ some u → u.setting.kind ≡ Eds8
-
-module _ (was : Setting → List Row) (alike : Alike was) where
-  -- so they refuse the same records of that kind
-  pub same_sound : (u : Mux) → u.setting.kind ≡ Eds8 → unsound u ≡ unsound_by was u
-  unfolding unsound_by
-  same_sound u k = by_setting u (eqb (first_of (was u.setting)) 0) (alike u.setting k)
-
-  -- of a record that may be absent, too
-  same_asked : (u : Option Mux) → ((v : Mux) → u ≡ some v → v.setting.kind ≡ Eds8) → asked u (λ v. unsound v) ≡ asked u (λ v. unsound_by was v)
-  unfolding asked
-  same_asked none k = refl
-  same_asked (some u) k = same_sound u (k u refl)
-
-  -- and every call on such a record, which is no setup, by the same number
-  pub same_calls : (g : Given) → g.setting ≡ none → OfEds8 g → refusal g ≡ first_of (call_rows_by was g)
-  unfolding refusal table_of rows_of call_rows call_rows_by
-  same_calls g e k = rw (e, same_asked g.unit k)

@@ -27,7 +27,8 @@ use Rattle.unit.specs.Refusals.{MOST-PORTS}
 use Rattle.unit.specs.Sound.{AllPorts}
 use Rattle.scan.specs.Turn.{idle_turn}
 use Rattle.scan.specs.Scan.{scanned}
-use Rattle.scan.specs.laws.Scan.{scanned_input, scanned_output, scanned_idle, served_says, served_names, scan_moves, turn_takes}
+use Rattle.scan.specs.laws.Scan.{scanned_input, scanned_output, scanned_idle, served_says, served_names}
+use Rattle.scan.proofs.laws.Scan.{scan_moves, turn_takes}
 use Rattle.calls.specs.Events.{Single, result, after, counted}
 use Rattle.calls.specs.laws.Places.{single_places}
 use Rattle.waiting.specs.Counting.{service_at, input_at, takes_at, holds_at, replaces_at, drops_at}

@@ -25,8 +25,10 @@ use Rattle.scan.specs.Scan.{scanned}
 use Rattle.scan.specs.laws.Scan.{scanned_input, scanned_output, served_says, service_empty}
 use Rattle.calls.specs.declared.call.Act.TheVariants.{Inspect}
 use Rattle.calls.specs.Events.{Single, sets_up, does, result, after, run_singles, counted}
-use Rattle.calls.specs.laws.Singles.{run_singles_lem, singles_single, sweep_counts}
-use Rattle.calls.specs.laws.Places.{setup_places, keeps_places}
+use Rattle.calls.specs.laws.Singles.{singles_single, sweep_counts}
+use Rattle.calls.proofs.laws.Singles.{run_singles_lem}
+use Rattle.calls.specs.laws.Places.{setup_places}
+use Rattle.calls.proofs.laws.Places.{keeps_places}
 use Rattle.door.specs.laws.Door.{made_run}
 use Rattle.waiting.specs.Counting.{turn_at, service_at, input_at, output_at, takes_at, holds_at}
 use Rattle.waiting.specs.Waiting.{P, Running, Holds, Empty, Takes, Arrived, ServiceTurn, Stops, inspections, inputs, While, Ended, Lasts, WithinP, InputServed, Replacement, Served, Replaced, Fate, HeldCharacter, FirstBound, WithinKP, Echo, OutputServed, OutputFate, EmptyTransmitter, SecondBound, Rotation, Places, Demand}

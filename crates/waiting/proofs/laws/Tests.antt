@@ -19,15 +19,16 @@ use Rattle.unit.specs.declared.reply.Turn.TheVariants.{Served}
 use Rattle.unit.specs.Record.{port_at}
 use Rattle.unit.specs.Reply.{turn_number, counts, World}
 use Rattle.unit.specs.Sound.{Sound}
-use Rattle.unit.specs.laws.Sound.{port_iff}
-use Rattle.unit.specs.laws.Replies.{setup_accepted}
+use Rattle.unit.proofs.laws.Sound.{port_iff}
+use Rattle.unit.proofs.laws.Replies.{setup_accepted}
 use Rattle.lines.specs.declared.signal.Signal.TheVariants.{Arrival}
-use Rattle.lines.specs.laws.Lines.{arrived}
+use Rattle.lines.proofs.laws.Lines.{arrived}
 use Rattle.processor.specs.declared.orders.Order.TheVariants.{Dob}
 use Rattle.processor.specs.laws.Processor.{reset_is, dob_is}
 use Rattle.scan.specs.Turn.{idle_turn}
 use Rattle.scan.specs.Scan.{service_turn, scanned}
-use Rattle.scan.specs.laws.Scan.{sound_scans, scan_moves, scanned_input, scanned_output, scanned_idle, served_says, served_names}
+use Rattle.scan.specs.laws.Scan.{scanned_input, scanned_output, scanned_idle, served_says, served_names}
+use Rattle.scan.proofs.laws.Scan.{sound_scans, scan_moves}
 use Rattle.calls.specs.Calls.{set_up, performed}
 use Rattle.calls.specs.declared.call.Act.TheVariants.{Processor}
 use Rattle.calls.specs.Events.{Single, does, result, after, counted}

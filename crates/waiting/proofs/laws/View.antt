@@ -18,23 +18,26 @@ use Rattle.unit.specs.declared.mux.Mux.{Mux}
 use Rattle.unit.specs.Record.{no_port, fresh_port, fresh, port_at}
 use Rattle.unit.specs.Reply.{counts, refused, accepted, World, world, Looked, looked}
 use Rattle.unit.specs.Refusals.{refusal, of_setup, of_unit, of_port}
-use Rattle.unit.specs.laws.Replies.{setup_accepted}
-use Rattle.unit.specs.laws.Sound.{sound_iff, port_iff, inspection_iff}
+use Rattle.unit.proofs.laws.Replies.{setup_accepted}
+use Rattle.unit.proofs.laws.Sound.{sound_iff, port_iff, inspection_iff}
 use Rattle.unit.specs.laws.Ports.{empty_inside}
 use Rattle.lines.specs.declared.signal.Signal.{Signal}
 use Rattle.lines.specs.declared.signal.Signal.TheVariants.{Arrival, TransmitterEmpty, DeviceStatus}
 use Rattle.lines.specs.Lines.{signalled, line}
-use Rattle.lines.specs.laws.Lines.{line_refused, line_accepted, line_keeps, line_sound, line_written, arrived, Marked, replaced}
+use Rattle.lines.specs.laws.Lines.{line_refused, line_accepted, Marked}
+use Rattle.lines.proofs.laws.Lines.{line_keeps, line_sound, line_written, arrived, replaced}
 use Rattle.processor.specs.declared.orders.Order.{Order}
 use Rattle.processor.specs.declared.orders.Order.TheVariants.{Reset, Iopls, Start, Doc, Dob, Dia, Dias, Tick}
 use Rattle.processor.specs.Processor.{reset_port, order, is_reset}
 use Rattle.processor.specs.Processor as Processor
-use Rattle.processor.specs.laws.Processor.{order_refused, order_accepted, order_keeps, order_stays_sound, stops, runs_on}
+use Rattle.processor.specs.laws.Processor.{order_refused, order_accepted, stops}
+use Rattle.processor.proofs.laws.Processor.{order_keeps, order_stays_sound, runs_on}
 use Rattle.scan.specs.Scan.{scanned}
-use Rattle.scan.specs.laws.Scan.{Kind, takes_turn, stands_still, kind, scan_moves, moves_sound}
+use Rattle.scan.specs.laws.Scan.{Kind, takes_turn, stands_still, moves_sound}
+use Rattle.scan.proofs.laws.Scan.{kind, scan_moves}
 use Rattle.calls.specs.declared.call.Act.TheVariants.{Line, Processor, Inspect}
 use Rattle.calls.specs.Calls.{setting_up, set_up, performed, step_of, given_of}
-use Rattle.calls.specs.laws.Refusals.{step_refuses}
+use Rattle.calls.proofs.laws.Refusals.{step_refuses}
 use Rattle.calls.specs.Events.{Single, sets_up, does, writes, result, after, counted}
 use Rattle.waiting.specs.Counting.{unrefused, is_arrival, brings_to, is_clear, takes_at}
 use Rattle.waiting.specs.Waiting.{P, Running, Empty, Takes, Arrived, Stops, Counts, Clears, reset, setup, Breaks}

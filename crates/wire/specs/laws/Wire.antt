@@ -16,8 +16,9 @@ use Rattle.framing.specs.Form.{frame_cells}
 use Rattle.framing.specs.Write.{write_frame}
 use Rattle.framing.specs.Read.{read_frame}
 use Rattle.framing.specs.Eds8.{form_of}
-use Rattle.framing.specs.laws.Any.{read_below}
-use Rattle.framing.specs.laws.Eds8.{eds8_bits, eds8_back}
+use Rattle.framing.proofs.laws.Any.{read_below}
+use Rattle.framing.specs.laws.Eds8.{eds8_bits}
+use Rattle.framing.proofs.laws.Eds8.{eds8_back}
 use Rattle.unit.specs.declared.mux.Port.{Port}
 use Rattle.unit.specs.declared.mux.Mux.{Mux}
 use Rattle.unit.specs.declared.reply.Reply.{Reply}
@@ -27,7 +28,8 @@ use Rattle.unit.specs.Refusals.{refusal, of_port}
 use Rattle.lines.specs.declared.signal.Signal.{Signal}
 use Rattle.lines.specs.declared.signal.Signal.TheVariants.{Arrival}
 use Rattle.lines.specs.Lines.{signalled, line}
-use Rattle.lines.specs.laws.Lines.{CharacterOnly, arrived, arrived_only}
+use Rattle.lines.specs.laws.Lines.{CharacterOnly, arrived_only}
+use Rattle.lines.proofs.laws.Lines.{arrived}
 use Rattle.calls.specs.declared.call.Act.TheVariants.{Line}
 use Rattle.calls.specs.declared.call.What.TheVariants.{Do}
 use Rattle.calls.specs.Calls.{performed, step_of, step, asking}

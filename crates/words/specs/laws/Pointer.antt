@@ -1,11 +1,11 @@
 -- The end of a buffer (document 02, K2), for input and output alike.
 --   two_thousand, last_ends   the request's own pointers with ends around them, computed
 --   at_end_iff           the end is reached exactly where it is at most the old pointer + 1
---   top_ends, zero_ends  so after 65535 every buffer ends, and an end of 0 is reached with the first byte
 --   goes_on              where it is not reached, the pointer steps by one with no jump to 0
 --   at_end_was             the rule before K2, kept for the laws below: the new pointer equals the end
 --   as_before            the two agree where the old pointer + 1 is below the end or equal to it
 --   at_or_past, was_past for any two words: done is what it was, or a pointer that is already at the end or past it; there it was not done
+-- In proofs/laws/Pointer, since they rest on these: top_ends, zero_ends, at_or_past.
 -- Not here: the definition, in specs/Pointer; services one after the other, in Buffer.
 -- Assumes nothing.
 use Rattle.std.specs.Prelude.{◌≡◌, ℕ, ◌+◌, ◌<◌, ◌≤◌, Bool, true, false, ◌||◌, ◌==◌, nat_le, refl}
@@ -28,12 +28,6 @@ pub at_end_iff : (old end : ℕ) → (at_end old end ≡ true → end ≤ old + 
 unfolding at_end
 at_end_iff old end = (leb-true end (old + 1), le-leb end (old + 1))
 
-pub top_ends : (end : ℕ) → end < 65536 → at_end 65535 end ≡ true
-top_ends end h = (at_end_iff 65535 end).1 (omega (arith, h))
-
-pub zero_ends : (old : ℕ) → at_end old 0 ≡ true
-zero_ends old = (at_end_iff old 0).1 (omega arith)
-
 pub goes_on : (old end : ℕ) → end < 65536 → at_end old end ≡ false → (step_ptr old ≡ old + 1) × (old + 1 < end)
 unfolding at_end
 goes_on old end h e = (omega (arith, h, leb-false end (old + 1) e), leb-false end (old + 1) e)
@@ -54,11 +48,3 @@ as_before old end h k = by (step_ptr old == end) refl
 pub was_past : (old end : ℕ) → end ≤ old → old < 65535 → at_end_was old end ≡ false
 unfolding at_end_was
 was_past old end h k = ne_eqb (step_ptr old) end (λ e. omega (arith, h, k, e))
-
-pub at_or_past : (old end : ℕ) → old < 65536 → end < 65536 → at_end old end ≡ (at_end_was old end || nat_le end old)
-unfolding at_end
-at_or_past old end h k = by (nat_le end old) refl
-  where
-    by : (t : Bool) → nat_le end old ≡ t → at_end old end ≡ (at_end_was old end || t)
-    by true e = le-leb end (old + 1) (omega (arith, leb-true end old e)) ∙ sym (or-true (at_end_was old end))
-    by false e = as_before old end k (omega (arith, leb-false end old e)) ∙ sym (or-false (at_end_was old end))

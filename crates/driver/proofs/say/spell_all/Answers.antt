@@ -4,7 +4,7 @@ use Prim.Native.Nat.{◌<◌}
 use native.Mathlib.Omega.{arith}
 use lib.ListN.{length, take, length-take}
 use lib.Seq.{get_or-take}
-use Rattle.driver.specs.laws.Lines.{begun_none, begun_on, begun_all}
+use Rattle.driver.proofs.laws.Lines.{begun_none, begun_on, begun_all}
 use borrow.Author.Rules.{rules}
 use Rattle.driver.proofs.say.spell_all.Goals as goal
 

@@ -5,7 +5,8 @@ use native.Mathlib.Omega.{arith}
 use lib.Dec.{lit<}
 use Rattle.framing.specs.Form.{data_bits, first_stop}
 use Rattle.framing.specs.Cells.{baud}
-use Rattle.framing.specs.laws.Cells.{baud_start, baud_data, baud_parity, baud_stop}
+use Rattle.framing.specs.laws.Cells.{baud_start}
+use Rattle.framing.proofs.laws.Cells.{baud_data, baud_parity, baud_stop}
 use Rattle.framing.proofs.cells.baud.Goals as goal
 
 pub returns-then-j-eq0 : goal.returns-then-j-eq0

@@ -5,7 +5,8 @@ use Prim.Native.Nat.{ℕ, ◌+◌, ◌*◌, ◌^◌, ◌<◌, ◌≤◌}
 use native.Mathlib.Nat.{zero-mul, zero-add}
 use native.Mathlib.Omega.{arith}
 use Rattle.framing.specs.Read.{level_at, data_of}
-use Rattle.framing.specs.laws.Read.{level_at_below, data_below, data_step, data_narrow, data_end}
+use Rattle.framing.specs.laws.Read.{data_below, data_step, data_narrow, data_end}
+use Rattle.framing.proofs.laws.Read.{level_at_below}
 use Rattle.framing.proofs.read.data_of.Goals as goal
 
 -- what is put together so far is a byte, since the whole is

@@ -2,7 +2,8 @@
 use mathlib.Core.Path.{◌≡◌, sym, ◌∙◌, ap}
 use Rattle.framing.specs.declared.read.Frame.{Frame}
 use Rattle.framing.specs.Read.{read_code, looked}
-use Rattle.framing.specs.laws.Refusals.{read-refused, read_taken, taken_fits}
+use Rattle.framing.specs.laws.Refusals.{read-refused, read_taken}
+use Rattle.framing.proofs.laws.Refusals.{taken_fits}
 use Rattle.framing.proofs.read.read_frame.Goals as goal
 
 pub returns-then-code-ne0 : goal.returns-then-code-ne0

@@ -6,7 +6,7 @@ use borrow.Author.Tests.{lt-ltb, le-ltb}
 use Rattle.ground.specs.Choose.{pick}
 use Rattle.unit.specs.laws.Sound.{sizes}
 use Rattle.settings.specs.Advice.{base_mended}
-use Rattle.settings.specs.laws.Advice.{step-some}
+use Rattle.settings.proofs.laws.Advice.{step-some}
 use Rattle.settings.proofs.advice.base_mended.Goals as goal
 
 pub step_of-step-requires : goal.step_of-step-requires

@@ -2,7 +2,7 @@
 use mathlib.Core.Path.{refl}
 use native.Mathlib.Omega.{arith}
 use Rattle.unit.specs.Record.{block_at}
-use Rattle.unit.specs.laws.Sound.{block_inside}
+use Rattle.unit.proofs.laws.Sound.{block_inside}
 use Rattle.unit.proofs.mux.block_at.Goals as goal
 
 pub overflow_mul-result : goal.overflow_mul-result

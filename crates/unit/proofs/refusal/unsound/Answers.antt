@@ -2,7 +2,7 @@
 use mathlib.Core.Path.{refl, sym, ◌∙◌}
 use borrow.Author.Tests.{le-leb, lt-leb}
 use borrow.Author.Rules.{rules}
-use Rattle.unit.specs.laws.Refusals.{setting_unsound, setting_passed}
+use Rattle.unit.proofs.laws.Refusals.{setting_unsound, setting_passed}
 use Rattle.unit.proofs.refusal.unsound.Goals as goal
 
 pub returns-then-setup_code-ne0 : goal.returns-then-setup_code-ne0

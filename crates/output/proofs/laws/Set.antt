@@ -4,7 +4,8 @@
 --   as_before      where the set says of that byte what the rule of 1974 says, the service is what it was without a set
 --   default_same   so it is, of every byte, by the 1974 set
 --   others_same    and by the 1974 set with another word on one code, of every byte but that one
--- Not here: what becomes of a special byte and of an ordinary one, in Glottal; the service by any rule for a special code, in Rules.
+-- Here, and not in specs/laws/Set, is what rests on other laws of specs/: an edit of a definition counts as refused where nothing in specs/ rests on the
+-- law that it breaks.
 -- Assumes nothing.
 use Rattle.std.specs.Prelude.{◌≡◌, Bool, List, ◌≢◌, ℕ, ◌%◌}
 use Rattle.std.proofs.Common.{◌∙◌}

@@ -1,0 +1,31 @@
+-- The 128 places of the array of ports: the type of the code's record has them, and here no call changes their number.
+--   keeps_places       so whoever has the 128 places keeps them
+-- Here, and not in specs/laws/Places, is what rests on other laws of specs/: an edit of a definition counts as refused where nothing in specs/ rests on the
+-- law that it breaks.
+-- Assumes nothing.
+use Rattle.std.specs.Prelude.{◌≡◌, refl, ◌⊎◌, length}
+use Rattle.std.proofs.Common.{◌∙◌, inl, inr, ne_eqb}
+use Rattle.std.proofs.Math.Decide.{ℕ_discrete}
+use Rattle.std.proofs.lemmas.List.{length-replicate}
+use Rattle.ground.specs.Choose.{pick}
+use Rattle.unit.specs.declared.mux.Setting.{Setting}
+use Rattle.unit.specs.Record.{fresh_port}
+use Rattle.unit.specs.Reply.{World}
+use Rattle.unit.specs.Refusals.{refusal, of_setup}
+use Rattle.unit.specs.Sound.{AllPorts}
+use Rattle.unit.proofs.laws.Replies.{setup_accepted, setup_refused}
+use Rattle.lines.proofs.laws.Lines.{line_ports}
+use Rattle.processor.proofs.laws.Processor.{order_ports}
+use Rattle.scan.proofs.laws.Scan.{inspection_ports}
+use Rattle.calls.specs.declared.call.Act.TheVariants.{Line, Processor, Inspect}
+use Rattle.calls.specs.Calls.{set_up, performed}
+use Rattle.calls.specs.Events.{Single, sets_up, does, writes, result, after}
+use Rattle.calls.specs.laws.Places.{single_places}
+
+-- whoever has the 128 places keeps them
+pub keeps_places : (w : World) (a : Single) → AllPorts w.mux → AllPorts (after w a).mux
+keeps_places w a h = go (single_places w a)
+  where
+    go : (length (after w a).mux.port ≡ length w.mux.port) ⊎ AllPorts (after w a).mux → AllPorts (after w a).mux
+    go (inl e) = e ∙ h
+    go (inr e) = e

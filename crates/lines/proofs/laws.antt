@@ -1,0 +1,2 @@
+-- What rests on the laws of specs/laws.
+pub mod Lines

@@ -1,0 +1,2 @@
+-- Theorems that rest on the laws of specs/ (laws).
+pub mod laws

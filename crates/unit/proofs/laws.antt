@@ -1,0 +1,10 @@
+-- What rests on the laws of specs/laws.
+pub mod Area
+pub mod Base
+pub mod Kind
+pub mod Location
+pub mod Refusals
+pub mod Replies
+pub mod Set
+pub mod Sound
+pub mod Tables
