@@ -1,4 +1,4 @@
--- What rests on the laws of specs/laws.
+-- What rests on the laws of specs/laws, in files of the same names.
 pub mod Places
 pub mod Refusals
 pub mod Set

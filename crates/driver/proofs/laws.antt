@@ -1,2 +1,2 @@
--- What rests on the laws of specs/laws.
+-- What rests on the laws of specs/laws, in files of the same names.
 pub mod Lines
