@@ -31,8 +31,8 @@ def read(path):
 
 
 def sources():
-    """The text of every file in which a cited name may stand."""
-    roots = [ROOT / 'crates', ROOT / 'tests']
+    """The text of every file in which a cited name may stand; what the toolchain leaves in a crate's out/ is none."""
+    roots = [*(it for crate in (ROOT / 'crates').iterdir() for it in crate.iterdir() if it.is_dir() and it.name != 'out'), ROOT / 'tests']
     files = [f for root in roots for f in root.rglob('*') if f.suffix in ENDINGS and f.name != 'pages.py']
     return '\n'.join(read(f) for f in files)
 

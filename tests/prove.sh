@@ -1,56 +1,76 @@
 #!/bin/sh
-# Proves a program and all that it stands on. The checker's own words go to target/PROGRAM.log.
+# Proves a program and all that it stands on, the lowest crate first, and builds it: crates/PROGRAM/out/PROGRAM. The checker's own words go to
+# target/PROGRAM.log. A program that target/PROGRAM.proved notes as proved and built from just these files is not proved again.
 #
-#   tests/prove.sh PROGRAM TIME      TIME says how long it takes the first time, in words
-program=$1
+#   tests/prove.sh PROGRAM
+#   tests/prove.sh --note START PROGRAM..     for the gate, after `rt ci` has proved everything: notes these programs; START is a file that was made before
 cd "$(dirname "$0")/.." && mkdir -p target || exit 1
-log=$PWD/target/$program.log
 
 # The crates: those that the program's line in crates.txt names and that have a line of their own, and the program.
-total=1
-for crate in $(sed -n "s/^$program://p" crates.txt); do
-    if grep -q "^$crate:" crates.txt; then total=$((total + 1)); fi
-done
-
-# One line for a crate, with how far that is.
-tell() {
-    told=$((told + 1))
-    printf '[%2d of %d] %s: %s\n' "$told" "$total" "$1" "$2"
-}
-
-# The crates that are proved already: one line for all of them together, or one each as soon as another has to be proved.
-hold() {
-    held="$held $1" waiting=$((waiting + 1))
-    if [ "$waiting" -eq "$total" ]; then echo "All $total crates are proved already, and unchanged since."; fi
-}
-
-release() {
-    for crate in $held; do tell "$crate" 'proved already'; done
-    held=
-}
-
-# Reads what the checker says, and ends as the checker ended.
-follow() {
-    told=0 waiting=0 held='' ended=1
-    while IFS= read -r said; do
-        printf '%s\n' "$said" >>"$log"
-        name=${said#rt: }
-        name=${name%% *}
-        case $said in
-        'rt: '*' proved (unchanged '*) hold "$name" ;;
-        'rt: '*' proved ('*) release; tell "$name" proved ;;
-        'rt: '*' NOT PROVED'*) release; tell "$name" 'NOT PROVED' ;;
-        'checker ended with '*) ended=${said#checker ended with } ;;
-        esac
+crates_of() {
+    for crate in $(sed -n "s/^$1://p" crates.txt) "$1"; do
+        if grep -q "^$crate:" crates.txt; then echo "$crate"; fi
     done
+}
+
+# What the proofs of a program's crates are made from.
+sources_of() {
+    echo crates.txt
+    for crate in $(crates_of "$1"); do
+        for part in src specs proofs; do
+            if [ -d "crates/$crate/$part" ]; then echo "crates/$crate/$part"; fi
+        done
+    done
+}
+
+# A checksum of the toolchain's name, of every source and of the program as it is built.
+sum_of() {
+    { rt version && find $(sources_of "$1") -type f -exec sha256sum {} + | LC_ALL=C sort && sha256sum "crates/$1/out/$1"; } | sha256sum
+}
+
+# Notes a program as proved and built, unless one of its sources has changed since a file was made.
+note() {
+    if [ -x "crates/$2/out/$2" ] && [ -z "$(find $(sources_of "$2") -newer "$1")" ]; then sum_of "$2" >"target/$2.proved"; fi
+}
+
+if [ "$1" = --note ]; then
+    start=$2
+    shift 2
+    for program in "$@"; do note "$start" "$program"; done
+    exit
+fi
+
+program=$1 log=$PWD/target/$1.log
+total=$(crates_of "$program" | wc -l) told=0
+echo "This proves the program $program and the crates that it stands on, $total in all, and then runs it; the first time that takes minutes."
+if [ -x "crates/$program/out/$program" ] && sum_of "$program" | cmp -s - "target/$program.proved"; then
+    echo "All $total crates are proved already, and unchanged since."
+    echo
+    exit
+fi
+
+# One crate: a library is proved and built, the program is proved, built and run once on nothing.
+prove() {
+    if [ "$1" = "$program" ]; then verb=run; else verb=lib; fi
+    (cd "crates/$1" && rt "$verb") </dev/null >"$log.part" 2>&1
+    ended=$?
+    cat "$log.part" >>"$log"
     return "$ended"
 }
 
-echo "This proves the program $program and the crates that it stands on, $total in all, and then runs it: $2 on two cores the first time."
 : >"$log"
-if ! { rt check "$program" 2>&1 </dev/null; echo "checker ended with $?"; } | follow; then
-    echo "Not proved. All that the checker said is in $log, which ends:"
-    tail -n 12 "$log"
-    exit 1
-fi
+start=$(mktemp) || exit 1
+trap 'rm -f "$start" "$log.part"' EXIT
+for crate in $(crates_of "$program"); do
+    told=$((told + 1)) began=$(date +%s)
+    printf '[%2d of %d] %s: ' "$told" "$total" "$crate"
+    if ! prove "$crate"; then
+        echo 'NOT PROVED'
+        echo "Not proved. All that the checker said is in $log, which ends:"
+        tail -n 12 "$log"
+        exit 1
+    fi
+    if [ -s "$log.part" ]; then echo "proved, $(($(date +%s) - began)) seconds"; else echo 'proved already'; fi
+done
+note "$start" "$program"
 echo

@@ -3,10 +3,10 @@
 # second programs that the sessions must tell apart, the caretakers' program against the second program's setup and the
 # hobbyist's program against its frames. One line for each, and how many passed.
 #
-#   tests/second/gate.sh [FOLDER]      FOLDER has the programs `compared`, `settings` and `picture`, as `rt check` builds them
-#                                      (default: target/bin)
+#   tests/second/gate.sh [FOLDER]      FOLDER has the programs `compared`, `settings` and `picture` (default: as `rt ci` leaves them,
+#                                      each in the out/ of its crate)
 here=$(cd "$(dirname "$0")" && pwd)
-built=${1:-$here/../../target/bin}
+built=${1:-}
 page=$here/../../docs/CARETAKER.md
 room=$(mktemp -d) || exit 2
 trap 'rm -rf "$room"' EXIT
@@ -27,7 +27,7 @@ step() {
 
 # Runs a program on a text, both named; what it prints goes to a third file.
 play() {
-    sh "$here/../run.sh" "$built/$1" <"$room/$2" >"$room/$3" && echo "$(wc -l <"$room/$3") lines printed"
+    "${built:-$here/../../crates/$1/out}/$1" <"$room/$2" >"$room/$3" && echo "$(wc -l <"$room/$3") lines printed"
 }
 
 # A program on short texts that end in different ways: its name, the checker of its answers and what that reads besides.
