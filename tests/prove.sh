@@ -66,11 +66,11 @@ for crate in $(crates_of "$program"); do
     printf '[%2d of %d] %s: ' "$told" "$total" "$crate"
     if ! prove "$crate"; then
         echo 'NOT PROVED'
-        echo "Not proved. All that the checker said is in $log, which ends:"
-        tail -n 12 "$log"
+        echo "Not proved. All that the checker said is in $log; the last of it that tells why:"
+        grep -i 'error\|not proved\|failed\|not built' "$log.part" | cut -c 1-300 | tail -n 12
         exit 1
     fi
-    if [ -s "$log.part" ]; then echo "proved, $(($(date +%s) - began)) seconds"; else echo 'proved already'; fi
+    if [ -s "$log.part" ]; then echo "proved, $(($(date +%s) - began)) s"; else echo 'proved already'; fi
 done
 note "$start" "$program"
 echo
