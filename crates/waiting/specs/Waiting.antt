@@ -1,4 +1,4 @@
--- Demand 3: nobody waits for ever. The statement; its proof is `demand` in laws/Proof.
+-- Demand 3: nobody waits for ever. The statement; its proof is `demand` in proofs/laws/Proof.
 -- "A running unit of P ports, with no stop, reset or new setup until the wait is over; refused inspections don't count. Within P inspections
 -- after a character arrives it has been served by the rules of 2, once and not again, or a later character of its own line replaced it first
 -- and carries the overload mark. In any (k+1)·P inspections that begin with a port's transmitter empty, in which at most k of its own turns

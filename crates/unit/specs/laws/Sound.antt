@@ -135,7 +135,7 @@ by_block F x y z b (eight e) = rw e x
 by_block F x y z b (sixteen e) = rw e y
 by_block F x y z b (thirty_two e) = rw e z
 
--- a block has eight words at least, and thirty_two at most
+-- a block has eight words at least, and thirty-two at most
 pub block_bounds : (b : ℕ) → IsBlock b → (8 ≤ b) × (b ≤ 32)
 block_bounds = by_block (λ b. (8 ≤ b) × (b ≤ 32)) (omega arith) (omega arith) (omega arith)
 

@@ -24,7 +24,7 @@ use Rattle.calls.specs.laws.Examples.{everything}
 use Rattle.waiting.specs.Counting.{is_clear, unrefused}
 use Rattle.waiting.specs.Waiting.{Clears, reset, setup}
 use Rattle.fifo.specs.Fifo.{irq, Begun, NoneSince, is_start, asks_start, starts_at, removes, raises_at, entry_of, accepts, lost_at, stacked}
-use Rattle.fifo.specs.laws.Proof.{fifo}
+use Rattle.fifo.proofs.laws.Proof.{fifo}
 
 -- ---- lists that are spoken of
 

@@ -40,7 +40,7 @@ use Rattle.waiting.specs.Counting.{unrefused, is_clear}
 use Rattle.waiting.specs.Waiting.{Clears, reset, setup}
 use Rattle.fifo.specs.Fifo.{irq, Mighty, stacked, room, Begun, is_start, asks_start, starts_at, removes, raises_at, entry_of, told, accepts, lost_at, empties_at, InOrder, AnyWindow, InOrderCalls, Count, Queued, Overflows, DiasReads, Found, LostMark, StartFlag, Places, Fifo}
 use Rattle.fifo.specs.Fifo as Stated
-use Rattle.fifo.specs.laws.View.{Seen, cleared, started, ticked, raised, left, seen, keeps_tidy}
+use Rattle.fifo.proofs.laws.View.{Seen, cleared, started, ticked, raised, left, seen, keeps_tidy}
 
 -- ---- the kind stays
 
