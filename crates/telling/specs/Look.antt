@@ -3,9 +3,7 @@
 --   seen     what is looked at before an inspection
 -- Not here: what is printed, which the programs' stored outputs hold.
 -- Assumes nothing.
-use mathlib.Core.List.{List}
-use Prim.Native.Nat.{ℕ, ◌+◌}
-use lib.ListN.{get_or}
+use Rattle.std.specs.Prelude.{List, ℕ, ◌+◌, get_or}
 use Rattle.words.specs.Codes.{at_icw, at_ocw, at_ibp}
 use Rattle.unit.specs.declared.mux.Setting.{Setting}
 use Rattle.unit.specs.Record.{block_at}

@@ -1,6 +1,5 @@
 // Words of control blocks, of any setting and any memory.
-ghost use mathlib.Core.Path.{◌≡◌};
-ghost use Prim.Native.Nat.{◌<◌, ◌+◌, ◌*◌};
+ghost use Rattle.std.specs.Prelude.{◌≡◌, ◌<◌, ◌+◌, ◌*◌};
 ghost use Rattle.telling.specs.Look.{word_of, seen};
 
 use unit::mux::Setting;
@@ -27,7 +26,7 @@ pub fn word_of(s: Setting, mem: &[u16], p: u32, k: usize) -> u16
 }
 
 // What port p's block holds before an inspection: ICW, OCW and IBP.
-#[derive(Drop)]
+#[derive(Clone, Copy)]
 pub struct Before {
     pub icw: u16,
     pub ocw: u16,

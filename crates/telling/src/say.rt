@@ -1,6 +1,5 @@
 // Numbers, bytes and characters.
-ghost use mathlib.Core.Path.{◌≡◌};
-ghost use lib.ListN.{length};
+ghost use Rattle.std.specs.Prelude.{◌≡◌, length};
 
 use io::{print_decimal, write_all};
 use words::byte::fetch;

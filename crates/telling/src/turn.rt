@@ -1,8 +1,5 @@
 // What an inspection did.
-ghost use mathlib.Core.Path.{◌≡◌};
-ghost use mathlib.Core.Bool.{not, ◌&&◌};
-ghost use lib.Dec.{eqb};
-ghost use lib.ListN.{length};
+ghost use Rattle.std.specs.Prelude.{◌≡◌, not, ◌&&◌, eqb, length};
 ghost use Rattle.words.specs.Field.{get};
 ghost use Rattle.words.specs.Codes.{INDONE, INMO, in_none, OUTDONE, OUTMO, out_control};
 
