@@ -5,10 +5,7 @@
 --   event_of, write_event     the event of a call, and of a host write
 -- Not here: what playing one does, in Replay; that each is the other's, in laws/Calls.
 -- Assumes nothing.
-use mathlib.Core.Bool.{Bool, false, not}
-use Prim.Native.Nat.{ℕ, ◌%◌}
-use lib.Dec.{eqb, ltb}
-use lib.ListN.{replicate}
+use Rattle.std.specs.Prelude.{Bool, false, not, ℕ, ◌%◌, eqb, ltb, replicate}
 use Rattle.ground.specs.Choose.{pick, bit}
 use Rattle.interrupt.specs.declared.Kind.{Kind}
 use Rattle.interrupt.specs.declared.Kind.TheVariants.{Eds8, MightyMux}

@@ -3,11 +3,7 @@
 --   Days    short recordings played: what they leave in the memory, with refused calls and refused events between, and in another memory
 -- Not here: that they hold, in laws/Examples; the format, in recording, Examples.
 -- Assumes nothing.
-use mathlib.Core.Path.{◌≡◌}
-use mathlib.Core.Bool.{true, false}
-use mathlib.Core.List.{List, [], ◌∷◌, ◌++◌}
-use Prim.Native.Nat.{ℕ}
-use lib.ListN.{length, get_or, replicate}
+use Rattle.std.specs.Prelude.{◌≡◌, true, false, List, [], ◌∷◌, ◌++◌, ℕ, length, get_or, replicate}
 use Rattle.ground.specs.Machine.{run}
 use Rattle.interrupt.specs.declared.Kind.TheVariants.{Eds8, MightyMux}
 use Rattle.unit.specs.Record.{no_mux}

@@ -7,10 +7,7 @@
 --   begun, replayed    a replay at its start, and one event of it
 -- Not here: that a replay is `run` over what its events come to, in laws/Replay.
 -- Assumes nothing.
-use mathlib.Core.List.{List, [], ◌∷◌, ◌++◌}
-use Prim.Native.Nat.{ℕ, ◌%◌}
-use lib.Dec.{eqb}
-use lib.ListN.{set, take, drop, replicate}
+use Rattle.std.specs.Prelude.{List, [], ◌∷◌, ◌++◌, ℕ, ◌%◌, eqb, set, take, drop, replicate}
 use Rattle.ground.specs.Choose.{pick}
 use Rattle.unit.specs.Record.{no_mux}
 use Rattle.unit.specs.Reply.{nothing, answered, World, world, Outcome, outcome}

@@ -1,5 +1,5 @@
 // An event as the call that it records, and a call as its event.
-ghost use mathlib.Core.Path.{◌≡◌};
+ghost use Rattle.std.specs.Prelude.{◌≡◌};
 ghost use Rattle.replay.specs.Calls.{kind_of, setting_of, signal_of, order_of, act_of, call_of, kind_number, flag, bare_event, setup_event, line_event, order_tag, act_event, event_of, write_event};
 
 use calls::call::{Act, Call, What, asking, setting_up};

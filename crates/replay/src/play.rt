@@ -1,6 +1,5 @@
 // One event played, by value: what it answers and leaves.
-ghost use mathlib.Core.Path.{◌≡◌};
-ghost use Prim.Native.Nat.{min};
+ghost use Rattle.std.specs.Prelude.{◌≡◌, min};
 ghost use Rattle.unit.specs.Reply.{world, outcome};
 ghost use Rattle.recording.specs.Pass.{kept};
 ghost use Rattle.replay.specs.Replay.{put, room, called, plays, begun, replayed};
@@ -19,7 +18,7 @@ pub const HOST_WRITE: u8 = 6;
 pub const SWEEP: u8 = 5;
 
 // How a replay stands: the refusal number or 0, and the record.
-#[derive(Drop)]
+#[derive(Clone, Copy)]
 pub struct Played {
     pub code: u8,
     pub mux: Mux,

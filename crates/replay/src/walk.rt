@@ -1,6 +1,5 @@
 // The events of a lent list played one after the other: a thin walk that copies each event out and plays it.
-ghost use mathlib.Core.Path.{◌≡◌};
-ghost use lib.ListN.{length, take};
+ghost use Rattle.std.specs.Prelude.{◌≡◌, length, take};
 ghost use Rattle.ground.specs.Machine.{run};
 ghost use Rattle.recording.specs.Pass.{kept};
 ghost use Rattle.replay.specs.Replay.{begun, replayed};

@@ -1,17 +1,12 @@
 -- Every call has its event: the call is what it records, and the writer takes it.
 --   Wide, SignalFits, ActFits, WhatFits   the numbers of a call as wide as the calls' own arguments, as every value of the types is
---   call_back          the event of a call records that call
+--   setup_back, act_back, sweep_back   the event of a setup, of one thing and of a sweep records that call
 --   event_taken_lem, write_taken   the writer takes it
---   recorded_call, recorded_write   what happens where such an event is played
--- Not here: an event as bytes and back, in recording, laws/Trips.
+--   what_other, recorded_write   what happens where such an event is played
+-- Not here: that the event of any call records that call, in proofs/laws/Calls; an event as bytes and back, in recording, laws/Trips.
 -- Assumes nothing.
-use mathlib.Core.Path.{◌≡◌, refl, ◌∙◌, ap}
-use mathlib.Core.Bool.{Bool, true, false, not}
-use Prim.Native.Nat.{ℕ, ◌≤◌, ◌%◌}
-use native.Mathlib.Omega.{arith}
-use lib.Dec.{eqb, leb}
-use lib.ListN.{replicate, set}
-use borrow.Author.Tests.{le-leb, eqb-false}
+use Rattle.std.specs.Prelude.{◌≡◌, refl, Bool, true, false, not, ℕ, ◌≤◌, ◌%◌, eqb, leb, set}
+use Rattle.std.proofs.Common.{◌∙◌, ap, arith, le-leb}
 use Rattle.ground.specs.Choose.{pick, bit, first_of}
 use Rattle.interrupt.specs.declared.Kind.{Kind}
 use Rattle.interrupt.specs.declared.Kind.TheVariants.{Eds8, MightyMux}
@@ -26,12 +21,12 @@ use Rattle.calls.specs.declared.call.What.{What}
 use Rattle.calls.specs.declared.call.What.TheVariants.{Setup, Do, Sweep}
 use Rattle.calls.specs.declared.call.Call.{Call}
 use Rattle.unit.specs.Reply.{World, world}
-use Rattle.calls.specs.Calls.{step, asking, setting_up}
+use Rattle.calls.specs.Calls.{asking, setting_up}
 use Rattle.recording.specs.Layout.{layout_of, most}
 use Rattle.recording.specs.Event.{numbers_fit, none_marked, event_fits, event_code}
 use Rattle.recording.specs.laws.Codes.{sound_code}
-use Rattle.replay.specs.Replay.{room, played}
-use Rattle.replay.specs.laws.Plays.{played_call, played_write}
+use Rattle.replay.specs.Replay.{played}
+use Rattle.replay.specs.laws.Plays.{played_write}
 use Rattle.replay.specs.Calls.{kind_of, signal_of, order_of, act_of, call_of, kind_number, bare_event, setup_event, line_event, order_tag, act_event, what_event, write_event}
 
 -- a mark is read again, and a kind
@@ -109,29 +104,22 @@ inspect_back : call_of (bare_event 7 0 0) ≡ asking (Do Inspect)
 unfolding call_of act_of pick
 inspect_back = refl
 
-sweep_back : (n list : ℕ) → call_of (bare_event 5 n list) ≡ asking (Sweep n)
+pub sweep_back : (n list : ℕ) → call_of (bare_event 5 n list) ≡ asking (Sweep n)
 unfolding call_of pick
 sweep_back n list = refl
 
-setup_back : (s : Setting) → call_of (setup_event s) ≡ setting_up s
+pub setup_back : (s : Setting) → call_of (setup_event s) ≡ setting_up s
 unfolding call_of pick
 setup_back s = ap (λ (k : Kind). setting_up (record { kind = k; block = s.block; ports = s.ports; base = s.base; special = s.special })) (kind_back s.kind)
 
 line_back : (p : ℕ) (e : Signal) → SignalFits e → call_of (line_event p e) ≡ asking (Do (Line p e))
 line_back p e h = line_call p e ∙ ap (λ (a : Act). asking (Do a)) (signal_back p e h)
 
-act_back : (a : Act) → ActFits a → call_of (act_event a) ≡ asking (Do a)
+pub act_back : (a : Act) → ActFits a → call_of (act_event a) ≡ asking (Do a)
 unfolding act_event
 act_back (Line p e) h = line_back p e h.1
 act_back (Processor o) h = processor_back o
 act_back Inspect h = inspect_back
-
--- the event of a call records that call
-pub call_back : (s : Setting) (list : ℕ) (a : What) → WhatFits s list a → call_of (what_event s list a) ≡ plain s a
-unfolding what_event
-call_back s list Setup h = setup_back s
-call_back s list (Do a) h = act_back a h
-call_back s list (Sweep n) h = sweep_back n list
 
 -- ---- the writer takes it
 
@@ -217,20 +205,13 @@ act_other (Line p e) = line_other p e
 act_other (Processor o) = order_other o
 act_other Inspect = refl
 
-what_other : (s : Setting) (list : ℕ) (a : What) → eqb (what_event s list a).tag 6 ≡ false
+pub what_other : (s : Setting) (list : ℕ) (a : What) → eqb (what_event s list a).tag 6 ≡ false
 unfolding what_event
 what_other s list Setup = refl
 what_other s list (Do a) = act_other a
 what_other s list (Sweep n) = refl
 
--- a call that is recorded and played is that call, with a list of zeros of the recorded length
-pub recorded_call : (w : World) (s : Setting) (list : ℕ) (a : What) → WhatFits s list a
-    → played w (what_event s list a) ≡ (step w (replicate (room (what_event s list a)) 0) (plain s a)).world
-recorded_call w s list a h =
-    let e = what_event s list a in
-    played_call w e (event_taken_lem s list a h) (eqb-false e.tag 6 (what_other s list a)) ∙ ap (λ (c : Call). (step w (replicate (room e) 0) c).world) (call_back s list a h)
-
--- and a word that the host wrote is written
+-- a word that the host wrote, recorded and played, is written
 pub recorded_write : (w : World) (address word : ℕ) → address ≤ 32767 → word ≤ 65535 → played w (write_event address word) ≡ world w.mux (set w.memory address word)
 recorded_write w address word h k =
     let small : word % 65536 ≡ word = omega (arith, k) in

@@ -1,7 +1,7 @@
 -- The worked examples hold: each is computed.
 -- Not here: what they are, in specs/Examples.
 -- Assumes nothing.
-use mathlib.Core.Path.{refl}
+use Rattle.std.specs.Prelude.{refl}
 use Rattle.ground.specs.Choose.{pick}
 use Rattle.sweep.specs.Sweep.{entered, going, sweep_from, sweep}
 use Rattle.calls.specs.Calls.{step_of}

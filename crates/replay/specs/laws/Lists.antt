@@ -3,20 +3,14 @@
 --   call_same, played_by   so an event played with 4096 places of zeros leaves what it leaves with its recorded list
 -- Not here: what a sweep puts into its list, in sweep.
 -- Assumes nothing.
-use mathlib.Core.Path.{◌≡◌, refl, sym, ◌∙◌, ap}
-use mathlib.Core.Bool.{Bool, true, false, not}
-use mathlib.Core.List.{List, [], ◌∷◌}
-use Prim.Native.Nat.{ℕ, zero, suc, ◌≤◌}
-use native.Mathlib.Nat.{le_trans, le_of_suc-le-suc, not-suc-le-zero}
-use native.Mathlib.Omega.{arith}
-use lib.Dec.{eqb, leb, ltb}
-use lib.ListN.{length, take, replicate, length-replicate}
-use lib.Seq.{take_all}
-use borrow.Author.Tests.{leb-true, leb-false, ltb-false, le-ltb, eqb-true, eqb-false}
+use Rattle.std.specs.Prelude.{◌≡◌, refl, Bool, true, false, not, List, [], ◌∷◌, ℕ, zero, suc, ◌≤◌, eqb, leb, ltb, length, take, replicate}
+use Rattle.std.proofs.Common.{sym, ◌∙◌, ap, le_trans, le_of_suc-le-suc, not-suc-le-zero, arith, take_all, leb-true, leb-false, ltb-false, le-ltb, eqb-true}
+use lib.ListN.{length-replicate}
+use borrow.Author.Tests.{eqb-false}
 use Rattle.ground.specs.Choose.{asked, Row, row, first_of}
 use Rattle.ground.specs.laws.Rows.{first_zero, first_idle}
 use Rattle.unit.specs.declared.mux.Mux.{Mux}
-use Rattle.unit.specs.Reply.{refused, World, world, Looked, Outcome, outcome}
+use Rattle.unit.specs.Reply.{refused, World, Looked, Outcome, outcome}
 use Rattle.unit.specs.Refusals.{WORDS, MOST-INSPECTIONS, UNSOUND, BAD-MEMORY, NO-PORT, TOO-MANY, SHORT-LIST, unsound, refusal, table_of, call_rows, rows_of, of_sweep}
 use Rattle.unit.specs.declared.mux.Setting.{Setting}
 use Rattle.calls.specs.declared.call.What.{What}

@@ -1,10 +1,8 @@
 -- Any two outcomes that the contracts of one event played and of a replay allow are equal.
 -- Not here: the contracts, in src/play.rt and src/walk.rt.
 -- Assumes nothing.
-use mathlib.Core.Path.{◌≡◌, sym, ◌∙◌, ap}
-use mathlib.Core.List.{List}
-use Prim.Native.Nat.{ℕ}
-use lib.ListN.{length}
+use Rattle.std.specs.Prelude.{◌≡◌, List, ℕ, length}
+use Rattle.std.proofs.Common.{sym, ◌∙◌, ap}
 use Rattle.ground.specs.Machine.{run}
 use Rattle.unit.specs.declared.reply.Replied.{Replied}
 use Rattle.unit.specs.Reply.{World, Outcome, outcome}

@@ -7,12 +7,8 @@
 --   called_back                          a call on the first places of the list, as the code counts them
 -- Not here: what a replay comes to, in laws/Replay.
 -- Assumes nothing.
-use mathlib.Core.Path.{◌≡◌, ◌∙◌, ap}
-use mathlib.Core.List.{List, ◌++◌}
-use Prim.Native.Nat.{ℕ, min}
-use lib.Dec.{eqb}
-use lib.ListN.{length, take, drop, replicate}
-use borrow.Author.Tests.{eq-eqb, ne_eqb}
+use Rattle.std.specs.Prelude.{◌≡◌, List, ◌++◌, ℕ, min, eqb, length, take, drop, replicate}
+use Rattle.std.proofs.Common.{◌∙◌, ap, eq-eqb, ne_eqb}
 use Rattle.ground.specs.Choose.{pick}
 use Rattle.ground.specs.laws.Rows.{pick_true, pick-false}
 use Rattle.ground.specs.laws.Arrays.{take_most, drop_most}

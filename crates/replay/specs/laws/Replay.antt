@@ -6,14 +6,9 @@
 --   answer_is       what an event answers is what its call answers
 -- Not here: one event, in laws/Plays; demands 1 to 3 of what a list of calls does, in calls, waiting and fifo, which a replay has by replay_run.
 -- Assumes nothing.
-use mathlib.Core.Path.{◌≡◌, refl, sym, ◌∙◌, ap}
-use mathlib.Core.Bool.{Bool, true, false}
-use mathlib.Core.List.{List, [], ◌∷◌}
-use Prim.Native.Nat.{ℕ}
-use native.Mathlib.Omega.{arith}
-use lib.Dec.{eqb}
-use lib.ListN.{length, replicate}
-use borrow.Author.Tests.{eqb-true, eqb-false}
+use Rattle.std.specs.Prelude.{◌≡◌, refl, Bool, true, false, List, [], ◌∷◌, ℕ, eqb, length, replicate}
+use Rattle.std.proofs.Common.{sym, ◌∙◌, ap, arith, eqb-true}
+use borrow.Author.Tests.{eqb-false}
 use Rattle.ground.specs.Machine.{run}
 use Rattle.ground.specs.laws.Rows.{pick_true, pick-false}
 use Rattle.unit.specs.Record.{no_mux}

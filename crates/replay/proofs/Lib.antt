@@ -1,0 +1,2 @@
+-- What follows from the laws of replay.
+pub mod laws
