@@ -5,9 +5,8 @@
 --   same               a read that brings nothing
 -- Not here: the recording in parts, in stream; one event, in replay; that a day is the replay of its recording, in laws/Day.
 -- Assumes nothing.
-use mathlib.Core.List.{List, foldl}
-use Prim.Native.Nat.{ℕ}
-use lib.ListN.{replicate}
+use Rattle.std.specs.Prelude.{List, ℕ, replicate}
+use mathlib.Core.List.{foldl}
 use Rattle.ground.specs.Choose.{pick}
 use Rattle.unit.specs.declared.mux.Mux.{Mux}
 use Rattle.unit.specs.declared.reply.Reply.{Reply}

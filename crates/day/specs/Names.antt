@@ -4,11 +4,7 @@
 --   begins             where the lines began, after an event
 -- Not here: what is printed of them, which the stored output holds.
 -- Assumes nothing.
-use mathlib.Core.Bool.{◌&&◌}
-use mathlib.Core.List.{List}
-use Prim.Native.Nat.{ℕ}
-use lib.Dec.{eqb}
-use lib.ListN.{get_or}
+use Rattle.std.specs.Prelude.{◌&&◌, List, ℕ, eqb, get_or}
 use Rattle.ground.specs.Choose.{pick}
 use Rattle.ground.specs.Tab.{tab}
 use Rattle.unit.specs.declared.mux.Setting.{Setting}

@@ -1,11 +1,11 @@
 // A school day played again, in plain words: reads a recording on standard input, in parts, plays each event from a record of zeros and a memory of zeros, and prints what was asked and what came of it.
 #![tactic(auto)]
+
 mod names;
 mod say;
 
-ghost use mathlib.Core.Path.{◌≡◌};
 ghost use mathlib.Core.List.{foldl};
-ghost use lib.ListN.{length};
+ghost use Rattle.std.specs.Prelude.{◌≡◌, ◌≤◌, length, IfOk};
 ghost use Rattle.driver.specs.Text.{Turned, Heard};
 ghost use Rattle.unit.specs.Reply.{world, looked};
 ghost use Rattle.recording.specs.Pass.{kept};
@@ -13,9 +13,11 @@ ghost use Rattle.day.specs.Day.{dawn, with_stream, with_unit, told, after, happe
 
 use crate::names::{View, begins, say_changes, viewed};
 use crate::say::{say_end, say_event, say_progress};
+use driver::read::count;
 use io::write_all;
 use recording::event::Event;
 use replay::play::play;
+use std::io::{Read, Result, Stderr};
 use stream::Stream;
 use telling::look::seen;
 use unit::mux::Mux;
@@ -23,7 +25,7 @@ use unit::reply::Replied;
 use unit::setup::no_mux;
 
 // The day so far: the recording as far as it is read, the unit, and where the lines began.
-#[derive(Drop)]
+#[derive(Clone, Copy)]
 struct Day {
     stream: Stream,
     unit: Mux,
@@ -31,7 +33,7 @@ struct Day {
 }
 
 // The reading of a day: whether more may come, whether a read failed, and the day.
-#[derive(Drop)]
+#[derive(Clone, Copy)]
 struct Reader {
     going: bool,
     failed: bool,
@@ -132,29 +134,38 @@ fn take(d: Day, mem: &mut [u16], text: &[u8]) -> Day
     e
 }
 
+// Reads once from the standard input into buf: how many bytes came, 0 at the end of the recording, or that reading failed.
+fn received(rt: &impl Input, buf: &mut [u8]) -> Result<usize>
+    ensures { IfOk result (λ n. n ≤ length buf.new) }
+{
+    let mut reader = rt.reader();
+    reader.read(buf)
+}
+
 // Reads once and takes what came. Keeping the loop out of it lets the buffer be its own.
-fn turn(r: Reader, mem: &mut [u16]) -> Reader
+fn turn(rt: &impl Input, errors: Stderr, r: Reader, mem: &mut [u16]) -> Reader
     requires { length mem.old ≡ 32768 }
     ensures { Turned on same (kept r.day mem.old) (kept result.day mem.new) }
 {
     let mut q = r;
     let mut buf = io::large_buffer();
-    let got = libc::read(0, &mut buf);
-    if got <= 0 {
+    let got = received(rt, &mut buf);
+    let failed = got.is_err();
+    let n = count(got);
+    if n == 0 {
         q.going = false;
-        q.failed = got < 0;
+        q.failed = failed;
         return q;
     }
-    let n = io::count(got, &buf);
     let d = take(r.day, mem, &buf[..n]);
     let s = d.stream;
-    say_progress(s.at, s.count);
+    say_progress(errors, s.at, s.count);
     q.day = d;
     q
 }
 
 // All of the recording. The turns are counted down, from a number that no run uses up, since nothing says that the input ends.
-fn read_all(mem: &mut [u16]) -> Reader
+fn read_all(rt: &impl Input, errors: Stderr, mem: &mut [u16]) -> Reader
     requires { length mem.old ≡ 32768 }
     ensures { Heard taken (kept dawn mem.old) (kept result.day mem.new) }
 {
@@ -165,15 +176,15 @@ fn read_all(mem: &mut [u16]) -> Reader
     };
     let mut turns = u64::MAX;
     while turns > 0 && r.going {
-        r = turn(r, mem);
+        r = turn(rt, errors, r, mem);
         turns -= 1;
     }
     r
 }
 
-fn main() {
+fn main(rt: HostRuntime) {
     let mut mem = [0u16; 32768];
-    let r = read_all(&mut mem);
+    let r = read_all(&rt, rt.stderr(), &mut mem);
     let d = r.day;
     if r.failed {
         write_all(1, b"reading failed\n");

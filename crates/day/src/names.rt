@@ -1,7 +1,5 @@
 // The lines that pupils type: where each began in its buffer, and what stands there so far.
-ghost use mathlib.Core.Path.{◌≡◌};
-ghost use Prim.Native.Nat.{◌<◌};
-ghost use lib.ListN.{length};
+ghost use Rattle.std.specs.Prelude.{◌≡◌, ◌<◌, length};
 ghost use Rattle.day.specs.Names.{column, viewed, moved, rewritten, begins};
 
 use io::write_all;
@@ -98,7 +96,7 @@ fn say_icw(p: u64, icw: u16, codes: [bool; 128]) {
 }
 
 // A port's input pointer and its ICW.
-#[derive(Drop)]
+#[derive(Clone, Copy)]
 struct Pair {
     ibp: u16,
     icw: u16,
@@ -121,7 +119,7 @@ fn say_port(s: Setting, p: u32, begin: u16, was: Pair, is: Pair, mem: &[u16], sw
 }
 
 // The words of every port that are looked at: its input pointer and its ICW.
-#[derive(Drop)]
+#[derive(Clone, Copy)]
 pub struct View {
     pub ibp: [u16; 128],
     pub icw: [u16; 128],

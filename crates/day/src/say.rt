@@ -1,12 +1,12 @@
 // One event in words, and the last line.
-ghost use mathlib.Core.Path.{◌≡◌};
-ghost use lib.ListN.{length};
+ghost use Rattle.std.specs.Prelude.{◌≡◌, length};
 
 use io::{print_decimal, write_all};
 use recording::event::Event;
 use recording::reading::Done;
 use replay::call::call_of;
 use replay::play::HOST_WRITE;
+use std::io::{IsTerminal, Stderr};
 use telling::look::Before;
 use telling::say::say_number;
 use telling::told::say_call;
@@ -118,8 +118,8 @@ pub fn say_end(d: Done) {
 }
 
 // How far the reading is, where whoever waits sees it.
-pub fn say_progress(bytes: usize, events: usize) {
-    if libc::isatty(2) == 1 {
+pub fn say_progress(errors: Stderr, bytes: usize, events: usize) {
+    if errors.is_terminal() {
         print_decimal(2, bytes as u64);
         write_all(2, b" bytes, ");
         print_decimal(2, events as u64);

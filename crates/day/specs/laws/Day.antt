@@ -6,11 +6,9 @@
 --   day_replay    they are those of the fields before the first that is at fault, and what the calls and host writes give one by one
 -- Not here: that reading in parts is reading the whole, in stream, laws/Whole.
 -- Assumes nothing.
-use mathlib.Core.Path.{◌≡◌, refl, sym, ◌∙◌, ap}
-use mathlib.Core.Bool.{Bool, true, false}
-use mathlib.Core.List.{List, [], ◌∷◌, foldl}
-use Prim.Native.Nat.{ℕ, ◌<◌, ◌^◌}
-use lib.ListN.{length}
+use Rattle.std.specs.Prelude.{◌≡◌, refl, Bool, true, false, List, [], ◌∷◌, ℕ, ◌<◌, ◌^◌, length}
+use Rattle.std.proofs.Common.{sym, ◌∙◌, ap}
+use mathlib.Core.List.{foldl}
 use Rattle.ground.specs.Choose.{pick}
 use Rattle.ground.specs.Machine.{run, gather}
 use Rattle.ground.specs.laws.Machine.{run-append}
