@@ -19,7 +19,7 @@ import wire2  # noqa: E402
 
 ENDINGS = {'.rt', '.antt', '.py', '.sh'}
 # Crates whose definitions speak of the programs and not of the multiplexer.
-PROGRAMS = {'driver', 'compared', 'watch', 'settings', 'picture'}
+PROGRAMS = {'driver', 'compared', 'watch', 'settings', 'picture', 'telling', 'day'}
 # A setting as it is typed, with an m for a Mighty Mux; an example of a number: what was typed, what to type instead.
 SETTING = r'\d+ \d+ \d+(?: m\b)?'
 EXAMPLE = re.compile(rf' +({SETTING}) +type ({SETTING}): (.*)')

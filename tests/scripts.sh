@@ -29,6 +29,7 @@ shown '8 1 32768'
 ends "$room/shown" ./settings 8 1 32768
 shown '8 8 320 m'
 ends "$room/shown" ./settings 8 8 320 m
+ends crates/day/stdout ./day crates/day/stdin
 head -n 4 crates/picture/stdout >"$room/drawn"
 ends "$room/drawn" ./picture $(head -n 1 crates/picture/stdin)
 echo "$passed passed, $failed failed"

@@ -1,5 +1,6 @@
 // The door: the record of the unit is lent and changed in place; below it the record goes in and comes back by value.
 #![tactic(auto)]
+
 ghost use Rattle.std.specs.Prelude.{◌≡◌};
 ghost use Rattle.unit.specs.Reply.{world, outcome};
 ghost use Rattle.calls.specs.Calls.{step};

@@ -7,7 +7,7 @@
 --   dictionary_set   the one that the dictionary wants: octal 174 ordinary, all else as in 1974
 -- Not here: what is done with a special code, in input and output; where a unit keeps its set, in unit's Record.
 -- Assumes nothing.
-use Rattle.std.specs.Prelude.{ℕ, ◌%◌, Bool, false, ◌||◌, List, set, nat_lt, slice_index_or, slice_set}
+use Rattle.std.specs.Prelude.{ℕ, ◌%◌, Bool, false, ◌||◌, List, nat_lt, slice_index_or, slice_set}
 use Rattle.ground.specs.Tab.{tab}
 
 -- the low seven bits are below octal 40 or above octal 173

@@ -1,5 +1,4 @@
 -- `calls::apply` meets its contract: each act is answered by its own call.
-use borrow.Author.Rules.{rules}
 use Rattle.calls.specs.Calls.{performed}
 use Rattle.calls.proofs.apply.Goals as goal
 

@@ -3,23 +3,11 @@
 -- Here, and not in specs/laws/Places, is what rests on other laws of specs/: an edit of a definition counts as refused where nothing in specs/ rests on the
 -- law that it breaks.
 -- Assumes nothing.
-use Rattle.std.specs.Prelude.{◌≡◌, refl, ◌⊎◌, length}
-use Rattle.std.proofs.Common.{◌∙◌, inl, inr, ne_eqb}
-use Rattle.std.proofs.Math.Decide.{ℕ_discrete}
-use Rattle.std.proofs.lemmas.List.{length-replicate}
-use Rattle.ground.specs.Choose.{pick}
-use Rattle.unit.specs.declared.mux.Setting.{Setting}
-use Rattle.unit.specs.Record.{fresh_port}
+use Rattle.std.specs.Prelude.{◌≡◌, ◌⊎◌, length}
+use Rattle.std.proofs.Common.{◌∙◌, inl, inr}
 use Rattle.unit.specs.Reply.{World}
-use Rattle.unit.specs.Refusals.{refusal, of_setup}
 use Rattle.unit.specs.Sound.{AllPorts}
-use Rattle.unit.proofs.laws.Replies.{setup_accepted, setup_refused}
-use Rattle.lines.proofs.laws.Lines.{line_ports}
-use Rattle.processor.proofs.laws.Processor.{order_ports}
-use Rattle.scan.proofs.laws.Scan.{inspection_ports}
-use Rattle.calls.specs.declared.call.Act.TheVariants.{Line, Processor, Inspect}
-use Rattle.calls.specs.Calls.{set_up, performed}
-use Rattle.calls.specs.Events.{Single, sets_up, does, writes, result, after}
+use Rattle.calls.specs.Events.{Single, after}
 use Rattle.calls.specs.laws.Places.{single_places}
 
 -- whoever has the 128 places keeps them

@@ -10,27 +10,19 @@ use Rattle.std.proofs.Math.Decide.{ℕ_discrete}
 use Rattle.ground.specs.laws.Rows.{pick-false}
 use Rattle.unit.specs.declared.mux.Setting.{Setting}
 use Rattle.unit.specs.declared.mux.Mux.{Mux}
-use Rattle.unit.specs.declared.reply.Replied.{Replied}
 use Rattle.unit.specs.Record.{fresh, no_mux}
-use Rattle.unit.specs.Reply.{refused, accepted, World, Looked, looked, Outcome, outcome}
-use Rattle.unit.specs.Refusals.{refusal, of_setup, of_inspection, of_sweep}
+use Rattle.unit.specs.Reply.{refused, accepted, World}
+use Rattle.unit.specs.Refusals.{refusal, of_setup, of_sweep}
 use Rattle.unit.specs.Setup.{setup}
 use Rattle.unit.specs.laws.Refusals.{never_five}
 use Rattle.unit.specs.laws.Replies.{Answered, guarded_refused}
 use Rattle.unit.proofs.laws.Replies.{guarded_answers}
-use Rattle.lines.specs.Lines.{line}
-use Rattle.processor.specs.Processor.{order}
-use Rattle.scan.specs.Scan.{inspection}
-use Rattle.scan.specs.laws.Scan.{Kind, takes_turn, stands_still}
-use Rattle.scan.proofs.laws.Scan.{kind, scan_moves}
 use Rattle.sweep.specs.Sweep.{sweep}
 use Rattle.sweep.specs.laws.Sweep.{sweep_refused, sweep_accepted}
-use Rattle.calls.specs.declared.call.Act.{Act}
-use Rattle.calls.specs.declared.call.Act.TheVariants.{Line, Processor, Inspect}
 use Rattle.calls.specs.declared.call.What.{What}
 use Rattle.calls.specs.declared.call.What.TheVariants.{Setup, Do, Sweep}
 use Rattle.calls.specs.declared.call.Call.{Call}
-use Rattle.calls.specs.Calls.{set_up, performed, with_list, step_of, step, given_to, given_of}
+use Rattle.calls.specs.Calls.{set_up, step_of, step, given_of}
 use Rattle.calls.specs.laws.Refusals.{Refuses, on_record, performed_refuses}
 
 -- a setup beside a record that stands

@@ -4,19 +4,12 @@
 -- law that it breaks.
 -- Assumes nothing.
 use Rattle.std.specs.Prelude.{◌≡◌, refl, List, [], ◌∷◌}
-use Rattle.std.proofs.Common.{◌∙◌, ap, ne_eqb}
-use Rattle.ground.specs.Choose.{pick}
+use Rattle.std.proofs.Common.{◌∙◌, ap}
 use Rattle.ground.specs.Machine.{run, Every}
 use Rattle.unit.specs.declared.mux.Setting.{Setting}
 use Rattle.unit.specs.Reply.{World}
 use Rattle.unit.specs.Refusals.{refusal, of_setup}
-use Rattle.unit.proofs.laws.Replies.{setup_accepted, setup_refused}
-use Rattle.lines.proofs.laws.Lines.{line_keeps}
-use Rattle.processor.specs.laws.Processor.{order_setting}
-use Rattle.scan.proofs.laws.Scan.{inspection_setting}
-use Rattle.calls.specs.declared.call.Act.TheVariants.{Line, Processor, Inspect}
-use Rattle.calls.specs.Calls.{set_up, performed}
-use Rattle.calls.specs.Events.{Single, NoSetup, sets_up, does, writes, result, after, run_singles}
+use Rattle.calls.specs.Events.{Single, NoSetup, sets_up, after, run_singles}
 use Rattle.calls.specs.laws.Set.{keeps_setting, brings_setting}
 
 -- over a list without a setup, but for refused ones

@@ -3,28 +3,18 @@
 -- Here, and not in specs/laws/Singles, is what rests on other laws of specs/: an edit of a definition counts as refused where nothing in specs/ rests on the
 -- law that it breaks.
 -- Assumes nothing.
-use Rattle.std.specs.Prelude.{◌≡◌, refl, Bool, true, List, [], ◌∷◌, map, ℕ, length, replicate}
-use Rattle.std.proofs.Common.{sym, ◌∙◌, arith, zero-add}
+use Rattle.std.specs.Prelude.{◌≡◌, refl, List, [], ◌∷◌, ℕ}
+use Rattle.std.proofs.Common.{sym, ◌∙◌}
 use Rattle.std.proofs.Math.Path.{ap}
-use Rattle.std.proofs.Math.Decide.{ℕ_discrete}
-use Rattle.ground.specs.Choose.{bit}
 use Rattle.ground.specs.Machine
 use Rattle.ground.specs.Machine.{total, tally}
 use Rattle.ground.specs.laws.Machine.{run-append}
 use Rattle.unit.specs.declared.mux.Setting.{Setting}
-use Rattle.unit.specs.Reply.{nothing, World, world}
-use Rattle.unit.specs.Refusals.{WORDS, refusal, of_sweep}
-use Rattle.unit.specs.Sound.{Sound}
-use Rattle.unit.proofs.laws.Sound.{sweep_iff}
-use Rattle.scan.proofs.laws.Scan.{sound_scans, scan_moves, inspection_sound}
-use Rattle.sweep.specs.Sweep.{Going, going, set_out, sweep}
-use Rattle.sweep.specs.laws.Sweep.{look, Looks, none, last, more, standing, sweep_refused, sweep_accepted}
-use Rattle.sweep.proofs.laws.Sweep.{sweeps}
-use Rattle.calls.specs.declared.call.Act.TheVariants.{Inspect}
+use Rattle.unit.specs.Reply.{World}
 use Rattle.calls.specs.declared.call.What.{What}
 use Rattle.calls.specs.declared.call.What.TheVariants.{Setup, Do, Sweep}
-use Rattle.calls.specs.Calls.{performed, step_of}
-use Rattle.calls.specs.Events.{Event, calls, host_writes, happens, run, Single, sets_up, does, writes, single, result, after, run_singles, singles_in, singles_of, singles, counted}
+use Rattle.calls.specs.Calls.{step_of}
+use Rattle.calls.specs.Events.{Event, calls, host_writes, happens, run, result, after, run_singles, singles_in, singles_of, singles}
 use Rattle.calls.specs.laws.Singles.{sweep_singles}
 
 -- ---- the calls

@@ -1,6 +1,5 @@
 -- `calls::set_up` meets its contract: a refused setup keeps the record.
 use borrow.Author.Tests.{eq-eqb, ne_eqb}
-use borrow.Author.Rules.{rules}
 use Rattle.ground.specs.Choose.{pick}
 use Rattle.calls.specs.Calls.{set_up}
 use Rattle.calls.proofs.set_up.Goals as goal

@@ -1,6 +1,5 @@
 -- `calls::step` meets its contract: each kind of call is answered by its own function.
 use mathlib.Core.Path.{ap}
-use borrow.Author.Rules.{rules}
 use Rattle.unit.specs.Reply.{Looked}
 use Rattle.calls.specs.Calls.{with_list, step_of}
 use Rattle.calls.proofs.step.Goals as goal

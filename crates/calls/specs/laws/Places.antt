@@ -5,7 +5,7 @@
 -- Not here: what an array past its end answers, in unit, laws/Ports.
 -- Assumes nothing.
 use Rattle.std.specs.Prelude.{◌≡◌, refl, ◌⊎◌, length}
-use Rattle.std.proofs.Common.{◌∙◌, inl, inr, ne_eqb}
+use Rattle.std.proofs.Common.{inl, inr, ne_eqb}
 use Rattle.std.proofs.Math.Decide.{ℕ_discrete}
 use Rattle.std.proofs.lemmas.List.{length-replicate}
 use Rattle.ground.specs.Choose.{pick}

@@ -4,33 +4,22 @@
 -- In proofs/laws/Refusals, since they rest on these: step_refuses, step_never_five.
 -- Not here: which number it is, in unit, laws/Refusals; the same through the door, in door, laws/Door.
 -- Assumes nothing.
-use Rattle.std.specs.Prelude.{◌≡◌, refl, List, ℕ, eqb}
-use Rattle.std.proofs.Common.{sym, ◌∙◌, ap, ne_eqb}
-use Rattle.std.proofs.Math.Decide.{ℕ_discrete}
-use Rattle.ground.specs.laws.Rows.{pick-false}
-use Rattle.unit.specs.declared.mux.Setting.{Setting}
+use Rattle.std.specs.Prelude.{◌≡◌, refl, List, ℕ}
+use Rattle.std.proofs.Common.{sym, ◌∙◌, ap}
 use Rattle.unit.specs.declared.mux.Mux.{Mux}
 use Rattle.unit.specs.declared.reply.Replied.{Replied}
-use Rattle.unit.specs.Record.{fresh, no_mux}
-use Rattle.unit.specs.Reply.{refused, accepted, World, Looked, looked, Outcome, outcome}
-use Rattle.unit.specs.Refusals.{refusal, of_setup, of_inspection, of_sweep}
-use Rattle.unit.specs.Setup.{setup}
-use Rattle.unit.specs.laws.Refusals.{never_five}
-use Rattle.unit.specs.laws.Replies.{Answered, guarded_refused}
+use Rattle.unit.specs.Reply.{refused, World, Looked, looked, Outcome, outcome}
+use Rattle.unit.specs.Refusals.{refusal, of_inspection}
+use Rattle.unit.specs.laws.Replies.{Answered}
 use Rattle.unit.proofs.laws.Replies.{guarded_answers}
 use Rattle.lines.specs.Lines.{line}
 use Rattle.processor.specs.Processor.{order}
 use Rattle.scan.specs.Scan.{inspection}
 use Rattle.scan.specs.laws.Scan.{Kind, takes_turn, stands_still}
 use Rattle.scan.proofs.laws.Scan.{kind, scan_moves}
-use Rattle.sweep.specs.Sweep.{sweep}
-use Rattle.sweep.specs.laws.Sweep.{sweep_refused, sweep_accepted}
 use Rattle.calls.specs.declared.call.Act.{Act}
 use Rattle.calls.specs.declared.call.Act.TheVariants.{Line, Processor, Inspect}
-use Rattle.calls.specs.declared.call.What.{What}
-use Rattle.calls.specs.declared.call.What.TheVariants.{Setup, Do, Sweep}
-use Rattle.calls.specs.declared.call.Call.{Call}
-use Rattle.calls.specs.Calls.{set_up, performed, with_list, step_of, step, given_to, given_of}
+use Rattle.calls.specs.Calls.{performed, with_list, given_to}
 
 -- the number k, and where it is a refusal the record, the memory and the list as they were, with no further result
 pub record Refuses (k : ℕ) (u : Mux) (m xs : List ℕ) (o : Outcome) : Type 0 where

@@ -5,10 +5,9 @@
 -- Not here: that setup's own answer, the lines and the processor do not read it, in unit, laws/Set, and in the laws of lines and processor; what an inspection and
 -- a sweep make of it, in laws/Set of scan and sweep.
 -- Assumes nothing.
-use Rattle.std.specs.Prelude.{◌≡◌, refl, List, [], ◌∷◌}
-use Rattle.std.proofs.Common.{◌∙◌, ap, ne_eqb}
+use Rattle.std.specs.Prelude.{◌≡◌, refl}
+use Rattle.std.proofs.Common.{ne_eqb}
 use Rattle.ground.specs.Choose.{pick}
-use Rattle.ground.specs.Machine.{run, Every}
 use Rattle.unit.specs.declared.mux.Setting.{Setting}
 use Rattle.unit.specs.Reply.{World}
 use Rattle.unit.specs.Refusals.{refusal, of_setup}
@@ -18,7 +17,7 @@ use Rattle.processor.specs.laws.Processor.{order_setting}
 use Rattle.scan.proofs.laws.Scan.{inspection_setting}
 use Rattle.calls.specs.declared.call.Act.TheVariants.{Line, Processor, Inspect}
 use Rattle.calls.specs.Calls.{set_up, performed}
-use Rattle.calls.specs.Events.{Single, NoSetup, sets_up, does, writes, result, after, run_singles}
+use Rattle.calls.specs.Events.{Single, NoSetup, sets_up, does, writes, result, after}
 
 pub keeps_setting : (w : World) (a : Single) → NoSetup a → (after w a).mux.setting ≡ w.mux.setting
 unfolding result performed set_up pick

@@ -12,7 +12,6 @@ use Rattle.std.proofs.Math.Decide.{ℕ_discrete}
 use Rattle.ground.specs.Choose.{bit}
 use Rattle.ground.specs.Machine
 use Rattle.ground.specs.Machine.{total, tally}
-use Rattle.ground.specs.laws.Machine.{run-append}
 use Rattle.unit.specs.declared.mux.Setting.{Setting}
 use Rattle.unit.specs.Reply.{nothing, World, world}
 use Rattle.unit.specs.Refusals.{WORDS, refusal, of_sweep}
@@ -23,10 +22,9 @@ use Rattle.sweep.specs.Sweep.{Going, going, set_out, sweep}
 use Rattle.sweep.specs.laws.Sweep.{look, Looks, none, last, more, standing, sweep_refused, sweep_accepted}
 use Rattle.sweep.proofs.laws.Sweep.{sweeps}
 use Rattle.calls.specs.declared.call.Act.TheVariants.{Inspect}
-use Rattle.calls.specs.declared.call.What.{What}
-use Rattle.calls.specs.declared.call.What.TheVariants.{Setup, Do, Sweep}
-use Rattle.calls.specs.Calls.{performed, step_of}
-use Rattle.calls.specs.Events.{Event, calls, host_writes, happens, run, Single, sets_up, does, writes, single, result, after, run_singles, singles_in, singles_of, singles, counted}
+use Rattle.calls.specs.declared.call.What.TheVariants.{Sweep}
+use Rattle.calls.specs.Calls.{performed}
+use Rattle.calls.specs.Events.{happens, Single, sets_up, does, writes, single, result, after, run_singles, singles_in, singles_of, singles, counted}
 
 -- ---- a sweep
 

@@ -3,14 +3,13 @@
 -- Here, and not in specs/laws/Lines, is what rests on other laws of specs/: an edit of a definition counts as refused where nothing in specs/ rests on the
 -- law that it breaks.
 -- Assumes nothing.
-use Rattle.std.specs.Prelude.{◌≡◌, refl, ℕ, zero, suc, ◌+◌, ◌*◌, ◌<◌, ◌≤◌, ltb, get_or, take, set}
-use Rattle.std.proofs.Common.{sym, ◌∙◌, add-one, arith, length-append, drop-cons, take-suc, length-take-le, lt-ltb, le-ltb}
+use Rattle.std.specs.Prelude.{◌≡◌, refl, ℕ, ◌+◌, ◌<◌, ltb, get_or}
+use Rattle.std.proofs.Common.{sym, ◌∙◌, arith, length-append}
 use Rattle.std.proofs.Math.Path.{ap}
 use mathlib.Core.List.{List, [], ◌∷◌, ◌++◌}
-use Rattle.std.proofs.Math.Dec.{leb-suc-suc}
 use Rattle.std.proofs.Math.ListN.{length, drop}
 use Rattle.std.proofs.lemmas.List.Edits.{sets}
-use Rattle.std.proofs.Math.Seq.{take-length, drop-length, length-sets, append_snoc}
+use Rattle.std.proofs.Math.Seq.{drop-length, length-sets}
 use Rattle.ground.specs.Choose.{pick}
 use Rattle.driver.specs.Printed.{decimal, after, line_of, Put}
 use Rattle.driver.specs.laws.Numerals.{numeral_length}

@@ -13,9 +13,9 @@ use mathlib.Core.List.{List, [], ◌∷◌, ◌++◌}
 use Rattle.std.proofs.Math.Dec.{leb-suc-suc}
 use Rattle.std.proofs.Math.ListN.{length, drop}
 use Rattle.std.proofs.lemmas.List.Edits.{sets}
-use Rattle.std.proofs.Math.Seq.{take-length, drop-length, length-sets, append_snoc}
+use Rattle.std.proofs.Math.Seq.{take-length, append_snoc}
 use Rattle.ground.specs.Choose.{pick}
-use Rattle.driver.specs.Printed.{decimal, after, line_of, Put}
+use Rattle.driver.specs.Printed.{decimal, after, line_of}
 use Rattle.driver.specs.laws.Numerals.{numeral_length}
 
 -- bytes put in two parts

@@ -4,13 +4,13 @@
 -- Here, and not in specs/laws/Cells, is what rests on other laws of specs/: an edit of a definition counts as refused where nothing in specs/ rests on the
 -- law that it breaks.
 -- Assumes nothing.
-use Rattle.std.specs.Prelude.{◌≡◌, refl, Bool, true, false, ℕ, ◌+◌, ◌-◌, ◌*◌, ◌/◌, ◌^◌, ◌<◌, ◌≤◌, ltb}
-use Rattle.std.proofs.Common.{◌∙◌, ap, mod-lt, arith, lit<, ne_eqb, lt-ltb, le-ltb}
+use Rattle.std.specs.Prelude.{◌≡◌, ℕ, ◌+◌, ◌-◌, ◌/◌, ◌<◌, ◌≤◌, ltb}
+use Rattle.std.proofs.Common.{◌∙◌, arith, ne_eqb, lt-ltb, le-ltb}
 use Rattle.ground.specs.Choose.{pick}
 use Rattle.ground.specs.laws.Rows.{pick_true, pick-false}
 use Rattle.framing.specs.declared.form.Form.{Form}
 use Rattle.framing.specs.Form.{data_bits, first_stop}
-use Rattle.framing.specs.Cells.{space, mark, bit_at, parity_bit, baud, frame_cell}
+use Rattle.framing.specs.Cells.{mark, bit_at, parity_bit, baud, frame_cell}
 use Rattle.framing.specs.laws.Form.{first_stop_lem}
 use Rattle.framing.specs.laws.Cells.{baud_below}
 

@@ -3,21 +3,13 @@
 -- Here, and not in specs/laws/Eds8, is what rests on other laws of specs/: an edit of a definition counts as refused where nothing in specs/ rests on the
 -- law that it breaks.
 -- Assumes nothing.
-use Rattle.std.specs.Prelude.{◌≡◌, refl, Bool, true, false, not, List, ℕ, zero, suc, ◌+◌, ◌-◌, ◌*◌, ◌/◌, ◌%◌, ◌^◌, ◌<◌, ◌≤◌, eqb, length}
-use Rattle.std.proofs.Common.{◌∙◌, ap, mod-lt, arith, lit<}
-use Rattle.ground.specs.Choose.{pick}
-use Rattle.words.specs.declared.field.Field.{Field}
-use Rattle.words.specs.Field.{get}
-use Rattle.words.specs.Codes.{PARITY-INHIBIT, STOP-BAUDS, LENGTH, EVEN-PARITY}
-use Rattle.words.specs.Length.{length_of, span_of, cut}
-use Rattle.framing.specs.declared.form.Parity.TheVariants.{Inhibited, Odd, Even}
-use Rattle.framing.specs.declared.form.Stops.TheVariants.{One, Two}
-use Rattle.framing.specs.Form.{bits_number, data_bits, checked, has_parity, halves_of, stop_cells, frame_cells}
-use Rattle.framing.specs.Cells.{limited, sense_of, sense}
+use Rattle.std.specs.Prelude.{◌≡◌, false, List, ℕ, ◌≤◌, length}
+use Rattle.std.proofs.Common.{◌∙◌, ap}
+use Rattle.words.specs.Length.{cut}
+use Rattle.framing.specs.Form.{frame_cells}
 use Rattle.framing.specs.Write.{write_frame}
 use Rattle.framing.specs.Read.{read_frame}
-use Rattle.framing.specs.Number.{bits_numbered}
-use Rattle.framing.specs.Eds8.{bits_of, parity_of, stops_of, form_of}
+use Rattle.framing.specs.Eds8.{form_of}
 use Rattle.framing.specs.laws.Frames.{heard}
 use Rattle.framing.proofs.laws.Frames.{reads_back}
 use Rattle.framing.specs.laws.Eds8.{eds8_cut}

@@ -4,22 +4,19 @@
 -- Here, and not in specs/laws/Frames, is what rests on other laws of specs/: an edit of a definition counts as refused where nothing in specs/ rests on the
 -- law that it breaks.
 -- Assumes nothing.
-use Rattle.std.specs.Prelude.{◌≡◌, Bool, ◌&&◌, ◌||◌, List, ◌⊎◌, ℕ, suc, ◌+◌, ◌-◌, ◌*◌, ◌^◌, ◌<◌, ◌≤◌, eqb, ltb, length}
+use Rattle.std.specs.Prelude.{◌≡◌, Bool, ◌&&◌, ◌||◌, List, ℕ, suc, ◌+◌, ◌*◌, ◌<◌, ◌≤◌, eqb, length}
 use Rattle.std.proofs.Math.Path.{refl, subst⁻¹}
-use Rattle.std.proofs.Common.{sym, ◌∙◌, ap, inl, inr, add-one, arith, ltb-true, ltb-false, eq-eqb}
-use Rattle.std.proofs.Math.Bool.{true, false, not}
-use Rattle.std.proofs.Math.Nat.{mod-mod}
+use Rattle.std.proofs.Common.{◌∙◌, ap, arith}
+use Rattle.std.proofs.Math.Bool.{false, not}
 use Rattle.framing.specs.declared.form.Form.{Form}
-use Rattle.framing.specs.declared.read.Frame.{Frame}
 use Rattle.framing.specs.Form.{data_bits, has_parity, first_stop, frame_cells}
 use Rattle.framing.specs.Cells.{space, mark, bit_at, limited, parity_bit, baud, frame_cell}
 use Rattle.framing.specs.Write.{write_frame}
-use Rattle.framing.specs.Read.{level_at, data_of, parity_mark, break_mark, frame_read, read_frame}
-use Rattle.framing.specs.laws.Form.{first_stop_lem, stop_checked, stop_unchecked, frame_cells_lem}
+use Rattle.framing.specs.Read.{level_at, frame_read, read_frame}
+use Rattle.framing.specs.laws.Form.{first_stop_lem, stop_checked, frame_cells_lem}
 use Rattle.framing.specs.laws.Cells.{baud_start, first_half_lem, second_half}
 use Rattle.framing.proofs.laws.Cells.{baud_data, baud_parity, baud_stop}
-use Rattle.framing.specs.laws.Data.{data_cut}
-use Rattle.framing.specs.laws.Refusals.{Framed, framed_iff}
+use Rattle.framing.specs.laws.Refusals.{framed_iff}
 use Rattle.framing.proofs.laws.Refusals.{read_good}
 use Rattle.framing.specs.laws.Levels.{cells_length}
 use Rattle.framing.proofs.laws.Levels.{written_level}

@@ -3,19 +3,15 @@
 -- Here, and not in specs/laws/Levels, is what rests on other laws of specs/: an edit of a definition counts as refused where nothing in specs/ rests on the
 -- law that it breaks.
 -- Assumes nothing.
-use Rattle.std.specs.Prelude.{◌≡◌, refl, List, ℕ, zero, suc, ◌+◌, ◌*◌, ◌<◌, ◌≤◌, length, get_or, set}
-use Rattle.std.proofs.Common.{◌∙◌, arith, length-set}
-use Rattle.std.proofs.Math.Path.{ap, subst⁻¹}
-use Rattle.std.proofs.Math.Seq.{get_or-set_same, get_or-set_other}
-use Rattle.ground.specs.Choose.{pick}
-use Rattle.ground.specs.laws.Arrays.{tab_in, tab_past, tab_to_length}
+use Rattle.std.specs.Prelude.{◌≡◌, List, ℕ, ◌<◌, ◌≤◌, length}
+use Rattle.std.proofs.Common.{◌∙◌}
+use Rattle.std.proofs.Math.Path.{ap}
 use Rattle.framing.specs.declared.form.Form.{Form}
 use Rattle.framing.specs.Form.{frame_cells}
 use Rattle.framing.specs.Cells.{frame_cell}
 use Rattle.framing.specs.Write.{write_frame}
 use Rattle.framing.specs.Read.{level, level_at}
 use Rattle.framing.proofs.laws.Cells.{cell_below}
-use Rattle.framing.specs.laws.Refusals.{write_fits}
 use Rattle.framing.specs.laws.Levels.{level_itself, cell_in}
 
 -- ---- every cell of the list after a frame was written

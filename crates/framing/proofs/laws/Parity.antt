@@ -3,11 +3,10 @@
 -- Here, and not in specs/laws/Parity, is what rests on other laws of specs/: an edit of a definition counts as refused where nothing in specs/ rests on the
 -- law that it breaks.
 -- Assumes nothing.
-use Rattle.std.specs.Prelude.{◌≡◌, ℕ, ◌+◌, ◌%◌, ◌<◌}
-use Rattle.std.proofs.Common.{◌∙◌, ap, arith, lit<}
+use Rattle.std.specs.Prelude.{◌≡◌, ℕ, ◌+◌, ◌%◌}
+use Rattle.std.proofs.Common.{◌∙◌, ap}
 use Rattle.std.specs.Int.Count.{ones}
-use Rattle.framing.specs.declared.form.Parity.{Parity}
-use Rattle.framing.specs.declared.form.Parity.TheVariants.{Inhibited, Odd, Even}
+use Rattle.framing.specs.declared.form.Parity.TheVariants.{Odd, Even}
 use Rattle.framing.specs.declared.form.Form.{Form}
 use Rattle.framing.specs.Cells.{limited, sense_of, sense, parity_bit}
 use Rattle.framing.specs.laws.Parity.{parity_sense}

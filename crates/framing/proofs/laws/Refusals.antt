@@ -4,18 +4,12 @@
 -- Here, and not in specs/laws/Refusals, is what rests on other laws of specs/: an edit of a definition counts as refused where nothing in specs/ rests on the
 -- law that it breaks.
 -- Assumes nothing.
-use Rattle.std.specs.Prelude.{◌≡◌, refl, Bool, true, false, not, ◌&&◌, List, ◌↔◌, ◌⊎◌, ℕ, ◌+◌, ◌-◌, ◌*◌, ◌<◌, ◌≤◌, ltb, length}
-use Rattle.std.proofs.Common.{◌∙◌, ap, inl, inr, arith, lt-ltb, le-ltb, ltb-true, ltb-false, eq-eqb, ne_eqb, eqb-true}
-use Rattle.ground.specs.Choose.{pick, first_of}
-use Rattle.ground.specs.laws.Arrays.{tab_to}
-use Rattle.ground.specs.laws.Rows.{pick_true, pick-false, and-true}
+use Rattle.std.specs.Prelude.{◌≡◌, refl, Bool, true, false, List, ◌↔◌, ◌⊎◌, ℕ, ◌<◌, ◌≤◌, length}
+use Rattle.std.proofs.Common.{inl, inr, arith}
+use Rattle.ground.specs.Choose.{pick}
 use Rattle.framing.specs.declared.form.Form.{Form}
-use Rattle.framing.specs.Form.{first_stop, frame_cells}
-use Rattle.framing.specs.Cells.{space, frame_cell}
-use Rattle.framing.specs.Write.{wrote, write_code, write_frame, NO-ROOM}
-use Rattle.framing.specs.Read.{level_at, starts_well, whole_to, read_code, frame_read, unread, read_frame, TOO-SHORT, NO-FRAME}
-use Rattle.framing.specs.laws.Form.{first_stop_lem}
-use Rattle.framing.specs.laws.Read.{whole_all, whole_each}
+use Rattle.framing.specs.Form.{frame_cells}
+use Rattle.framing.specs.Read.{level_at, read_code, frame_read, unread, read_frame, TOO-SHORT, NO-FRAME}
 use Rattle.framing.specs.laws.Refusals.{short_or_fits, framed, code_19, code_20, code_0}
 
 -- ---- reading

@@ -5,14 +5,11 @@
 -- In proofs/laws/Cells, since they rest on these: baud_data, baud_parity, baud_stop, cell_below.
 -- Not here: the definitions, in specs/Cells; what the parity bit makes of the ones, in Parity.
 -- Assumes nothing.
-use Rattle.std.specs.Prelude.{◌≡◌, refl, Bool, true, false, ℕ, ◌+◌, ◌-◌, ◌*◌, ◌/◌, ◌^◌, ◌<◌, ◌≤◌, ltb}
-use Rattle.std.proofs.Common.{◌∙◌, ap, mod-lt, arith, lit<, ne_eqb, lt-ltb, le-ltb}
+use Rattle.std.specs.Prelude.{◌≡◌, refl, Bool, true, false, ℕ, ◌+◌, ◌-◌, ◌*◌, ◌/◌, ◌^◌, ◌<◌}
+use Rattle.std.proofs.Common.{ap, mod-lt, arith, lit<}
 use Rattle.ground.specs.Choose.{pick}
-use Rattle.ground.specs.laws.Rows.{pick_true, pick-false}
 use Rattle.framing.specs.declared.form.Form.{Form}
-use Rattle.framing.specs.Form.{data_bits, first_stop}
-use Rattle.framing.specs.Cells.{space, mark, bit_at, parity_bit, baud, frame_cell}
-use Rattle.framing.specs.laws.Form.{first_stop_lem}
+use Rattle.framing.specs.Cells.{space, bit_at, parity_bit, baud, frame_cell}
 
 pub baud_start : (f : Form) (c : ℕ) → baud f c 0 ≡ space
 unfolding baud pick

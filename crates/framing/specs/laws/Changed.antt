@@ -4,26 +4,18 @@
 -- In proofs/laws/Changed, since they rest on these: any_break, broken_stop, any_marks, wrong_parity, both_marks, changed_bit.
 -- Not here: lists that are no such change, in Any.
 -- Assumes nothing.
-use Rattle.std.specs.Prelude.{◌≡◌, refl, Bool, true, false, not, ◌&&◌, ◌||◌, List, ◌⊎◌, eqb, length}
-use Rattle.std.proofs.Common.{sym, ◌∙◌, inl, inr, add-one, arith, eq-eqb, ne_eqb}
-use Rattle.std.proofs.Math.Path.{ap, subst⁻¹}
-use Rattle.std.proofs.Math.Bool.{and-true, or-true}
-use Prim.Native.Nat.{ℕ, suc, ◌+◌, ◌-◌, ◌*◌, ◌%◌, ◌^◌, ◌<◌, ◌≤◌}
-use Rattle.std.proofs.Math.Nat.{mod-eq_of_lt}
-use Rattle.std.proofs.Math.Decide.{ℕ_discrete}
-use Rattle.std.specs.Int.Count.{ones}
+use Rattle.std.specs.Prelude.{◌≡◌, true, false, List, length}
+use Rattle.std.proofs.Common.{sym, ◌∙◌, arith}
+use Rattle.std.proofs.Math.Path.{subst⁻¹}
+use Prim.Native.Nat.{ℕ, suc, ◌+◌, ◌-◌, ◌*◌, ◌^◌, ◌<◌, ◌≤◌}
 use Rattle.framing.specs.declared.form.Form.{Form}
 use Rattle.framing.specs.declared.read.Frame.{Frame}
 use Rattle.framing.specs.Form.{data_bits, has_parity, first_stop, frame_cells}
-use Rattle.framing.specs.Cells.{space, mark, bit_at, limited, sense, parity_bit}
-use Rattle.framing.specs.Write.{write_frame}
-use Rattle.framing.specs.Read.{level, level_at, data_of, read_frame}
+use Rattle.framing.specs.Cells.{space, bit_at}
+use Rattle.framing.specs.Read.{level, level_at}
 use Rattle.framing.specs.laws.Form.{first_stop_lem, stop_checked, frame_cells_lem}
-use Rattle.framing.specs.laws.Cells.{parity_below, bit_at_below}
-use Rattle.framing.specs.laws.Read.{data_below}
-use Rattle.framing.specs.laws.Data.{bit_read, count_of, ones_data, count_but_one}
 use Rattle.framing.specs.laws.Levels.{with_baud, changed_length, changed_first, changed_second, changed_else}
-use Rattle.framing.specs.laws.Frames.{heard, Sounds, sounds_data, unmarked}
+use Rattle.framing.specs.laws.Frames.{Sounds}
 
 module _ (f : Form) (c q s t : ℕ) (cells : List ℕ) (fits : frame_cells f ≤ length cells) (h : Sounds f c q s t (level_at cells)) where
   -- another baud is as it was

@@ -5,8 +5,8 @@
 -- In proofs/laws/Eds8, since they rest on these: eds8_back.
 -- Not here: the map itself, in specs/Eds8; what an arrival makes of a character that was read, in wire.
 -- Assumes nothing.
-use Rattle.std.specs.Prelude.{◌≡◌, refl, Bool, true, false, not, List, ℕ, zero, suc, ◌+◌, ◌-◌, ◌*◌, ◌/◌, ◌%◌, ◌^◌, ◌<◌, ◌≤◌, eqb, length}
-use Rattle.std.proofs.Common.{◌∙◌, ap, mod-lt, arith, lit<}
+use Rattle.std.specs.Prelude.{◌≡◌, refl, Bool, true, false, not, ℕ, zero, suc, ◌+◌, ◌-◌, ◌*◌, ◌/◌, ◌%◌, ◌^◌, ◌<◌, eqb}
+use Rattle.std.proofs.Common.{ap, mod-lt, arith, lit<}
 use Rattle.ground.specs.Choose.{pick}
 use Rattle.words.specs.declared.field.Field.{Field}
 use Rattle.words.specs.Field.{get}
@@ -14,13 +14,10 @@ use Rattle.words.specs.Codes.{PARITY-INHIBIT, STOP-BAUDS, LENGTH, EVEN-PARITY}
 use Rattle.words.specs.Length.{length_of, span_of, cut}
 use Rattle.framing.specs.declared.form.Parity.TheVariants.{Inhibited, Odd, Even}
 use Rattle.framing.specs.declared.form.Stops.TheVariants.{One, Two}
-use Rattle.framing.specs.Form.{bits_number, data_bits, checked, has_parity, halves_of, stop_cells, frame_cells}
+use Rattle.framing.specs.Form.{bits_number, data_bits, checked, has_parity, halves_of, stop_cells}
 use Rattle.framing.specs.Cells.{limited, sense_of, sense}
-use Rattle.framing.specs.Write.{write_frame}
-use Rattle.framing.specs.Read.{read_frame}
 use Rattle.framing.specs.Number.{bits_numbered}
 use Rattle.framing.specs.Eds8.{bits_of, parity_of, stops_of, form_of}
-use Rattle.framing.specs.laws.Frames.{heard}
 
 -- four codes, four lengths
 lengths : (k : ℕ) → k < 4 → bits_number (bits_numbered k) ≡ 5 + k

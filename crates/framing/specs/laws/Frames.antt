@@ -4,22 +4,19 @@
 -- Not here: a frame that was changed on the way, in Changed; what any list gives, in Any; when reading is refused, in Refusals; every cell of a
 -- written list, in Levels; that a form's cut is the base's own, in Eds8.
 -- Assumes nothing.
-use Rattle.std.specs.Prelude.{◌≡◌, Bool, ◌&&◌, ◌||◌, List, ◌⊎◌, ℕ, suc, ◌+◌, ◌-◌, ◌*◌, ◌^◌, ◌<◌, ◌≤◌, eqb, ltb, length}
-use Rattle.std.proofs.Math.Path.{refl, subst⁻¹}
-use Rattle.std.proofs.Common.{sym, ◌∙◌, ap, inl, inr, add-one, arith, ltb-true, ltb-false, eq-eqb}
+use Rattle.std.specs.Prelude.{◌≡◌, Bool, ◌&&◌, ◌||◌, ◌⊎◌, ℕ, suc, ◌+◌, ◌-◌, ◌*◌, ◌^◌, ◌<◌, eqb, ltb}
+use Rattle.std.proofs.Math.Path.{refl}
+use Rattle.std.proofs.Common.{sym, ◌∙◌, inl, inr, add-one, arith, ltb-true, ltb-false, eq-eqb}
 use Rattle.std.proofs.Math.Bool.{true, false, not}
 use Rattle.std.proofs.Math.Nat.{mod-mod}
 use Rattle.framing.specs.declared.form.Form.{Form}
 use Rattle.framing.specs.declared.read.Frame.{Frame}
 use Rattle.framing.specs.Form.{data_bits, has_parity, first_stop, frame_cells}
-use Rattle.framing.specs.Cells.{space, mark, bit_at, limited, parity_bit, baud, frame_cell}
-use Rattle.framing.specs.Write.{write_frame}
-use Rattle.framing.specs.Read.{level_at, data_of, parity_mark, break_mark, frame_read, read_frame}
-use Rattle.framing.specs.laws.Form.{first_stop_lem, stop_checked, stop_unchecked, frame_cells_lem}
-use Rattle.framing.specs.laws.Cells.{baud_start, first_half_lem, second_half}
+use Rattle.framing.specs.Cells.{space, bit_at, limited, parity_bit}
+use Rattle.framing.specs.Read.{data_of, parity_mark, break_mark}
+use Rattle.framing.specs.laws.Form.{stop_checked, stop_unchecked}
 use Rattle.framing.specs.laws.Data.{data_cut}
-use Rattle.framing.specs.laws.Refusals.{Framed, framed_iff}
-use Rattle.framing.specs.laws.Levels.{cells_length}
+use Rattle.framing.specs.laws.Refusals.{Framed}
 
 -- what a frame gives that is not refused: a character and its marks
 abbrev pub heard : Form → ℕ → Bool → Bool → Frame

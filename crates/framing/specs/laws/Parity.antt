@@ -4,7 +4,7 @@
 -- Not here: the parity bit, in specs/Cells; the mark, in Changed.
 -- Assumes nothing.
 use Rattle.std.specs.Prelude.{◌≡◌, ℕ, ◌+◌, ◌%◌, ◌<◌}
-use Rattle.std.proofs.Common.{◌∙◌, ap, arith, lit<}
+use Rattle.std.proofs.Common.{arith, lit<}
 use Rattle.std.specs.Int.Count.{ones}
 use Rattle.framing.specs.declared.form.Parity.{Parity}
 use Rattle.framing.specs.declared.form.Parity.TheVariants.{Inhibited, Odd, Even}

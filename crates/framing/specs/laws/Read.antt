@@ -6,11 +6,11 @@
 -- In proofs/laws/Read, since they rest on these: level_at_below.
 -- Not here: the definitions, in specs/Read; a written frame read back, in Frames.
 -- Assumes nothing.
-use Rattle.std.specs.Prelude.{◌≡◌, refl, Bool, true, false, ◌&&◌, List, ◌⊎◌, ℕ, zero, suc, ◌+◌, ◌-◌, ◌*◌, ◌^◌, ◌<◌, ◌≤◌, eqb, get_or}
+use Rattle.std.specs.Prelude.{◌≡◌, refl, Bool, true, false, ◌&&◌, ◌⊎◌, ℕ, zero, suc, ◌+◌, ◌-◌, ◌*◌, ◌^◌, ◌<◌, ◌≤◌, eqb}
 use Rattle.std.proofs.Common.{sym, ◌∙◌, ap, inl, inr, le_of_suc-le-suc, not-suc-le-zero, eq-or-lt_of_le, mul-le-mul_left, mul-le-mul_right, mul-one, one-mul, add-zero, add-mul, add_assoc, mul_assoc, mul_comm, pow-suc, arith, lit<, pow_pos, pow_mono, eq-eqb, ne_eqb, eqb-true}
 use Rattle.ground.specs.laws.Rows.{pick-false, and-true}
 use Rattle.framing.specs.Cells.{space, mark}
-use Rattle.framing.specs.Read.{level, level_at, alike, whole_to, data_of}
+use Rattle.framing.specs.Read.{level, alike, whole_to, data_of}
 use Rattle.framing.specs.laws.Cells.{chosen_below}
 
 -- 0 alone is space: any other byte is a mark

@@ -1,5 +1,4 @@
 -- `input::carry` meets its contract: three stores, in order.
-use borrow.Author.Rules.{rules}
 use Rattle.input.specs.Input.{carried}
 use Rattle.input.proofs.carry.Goals as goal
 

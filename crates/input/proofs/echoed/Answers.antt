@@ -1,5 +1,4 @@
 -- `input::echoed` meets its contract: an echo or none.
-use borrow.Author.Rules.{rules}
 use Rattle.ground.specs.Choose.{pick}
 use Rattle.input.proofs.echoed.Goals as goal
 

@@ -4,22 +4,21 @@
 -- Here, and not in specs/laws/Automatic, is what rests on other laws of specs/: an edit of a definition counts as refused where nothing in specs/ rests on the
 -- law that it breaks.
 -- Assumes nothing.
-use Rattle.std.specs.Prelude.{◌≡◌, refl, Bool, true, false, not, ◌&&◌, ◌||◌, List, ◌≢◌, ◌⊎◌, ℕ, ◌+◌, ◌/◌, ◌<◌, eqb, get_or}
-use Rattle.std.proofs.Common.{◌∙◌, ap, sym, inl, inr, arith, lit<}
+use Rattle.std.specs.Prelude.{◌≡◌, refl, Bool, true, false, List, ◌≢◌, ℕ, ◌+◌, ◌/◌, ◌<◌, get_or}
+use Rattle.std.proofs.Common.{◌∙◌, ap, sym, arith, lit<}
 use Rattle.ground.specs.Choose.{pick, bit}
 use Rattle.ground.specs.laws.Rows.{pick_true, pick-false, bit_below}
 use Rattle.words.specs.Field.{get}
-use Rattle.words.specs.Codes.{at_icw, at_ibp, INDONE, INMO, in_auto, in_echo, flag_none, stored_byte, word_byte}
+use Rattle.words.specs.Codes.{at_icw, at_ibp, INDONE, flag_none, stored_byte, word_byte}
 use Rattle.words.specs.laws.Codes.{word_fits}
 use Rattle.words.specs.Byte.{byte_at, word_if, byte_if}
-use Rattle.words.specs.laws.Byte.{length_word_if, length_byte_if, other_word, other_word_of_byte, other_byte_of_word, read_word, read_byte}
-use Rattle.words.specs.Special.{special_in}
+use Rattle.words.specs.laws.Byte.{length_word_if, other_word, other_word_of_byte, other_byte_of_word, read_word, read_byte}
 use Rattle.unit.specs.declared.mux.Port.{Port}
 use Rattle.unit.specs.laws.Sound.{Placed}
 use Rattle.input.specs.declared.plan.Plan.{Plan}
-use Rattle.input.specs.Input.{ascii, done_icw, done_plan, stored_plan, input_plan, carried, input_service}
+use Rattle.input.specs.Input.{ascii, done_plan, stored_plan, carried, input_service}
 use Rattle.input.specs.laws.Word.{code_fits, done_done}
-use Rattle.input.specs.laws.Kept.{icw_of, last_of, code_of, plan_of, next_of, after}
+use Rattle.input.specs.laws.Kept.{icw_of, code_of, plan_of, next_of, after}
 use Rattle.input.specs.laws.Automatic.{Filling, apart, busy_of, done_of, reported_plan, buffered_plan, automatic, written, Stored}
 
 -- ---- a character that is stored

@@ -4,18 +4,16 @@
 -- Here, and not in specs/laws/Kept, is what rests on other laws of specs/: an edit of a definition counts as refused where nothing in specs/ rests on the
 -- law that it breaks.
 -- Assumes nothing.
-use Rattle.std.specs.Prelude.{◌≡◌, refl, Bool, true, false, not, ◌&&◌, List, ◌≢◌, ℕ, ◌+◌, ◌/◌, ◌<◌, eqb, length, get_or}
-use Rattle.std.proofs.Common.{◌∙◌, ap, lit<, ne_eqb}
+use Rattle.std.specs.Prelude.{◌≡◌, Bool, false, not, ◌&&◌, List, ◌≢◌, ℕ, ◌+◌, ◌/◌, ◌<◌, eqb, get_or}
+use Rattle.std.proofs.Common.{◌∙◌, ap, lit<}
 use Rattle.ground.specs.Choose.{pick}
 use Rattle.words.specs.Field.{get}
-use Rattle.words.specs.Codes.{at_icw, at_ibp, at_lib, INDONE, INMO, in_none, in_single, ASCII, flag_none, stored_byte}
-use Rattle.words.specs.Pointer.{step_ptr, at_end}
+use Rattle.words.specs.Codes.{at_icw, at_ibp, INDONE, INMO, in_none, in_single, flag_none, stored_byte}
 use Rattle.words.specs.Byte.{byte_at, word_if, byte_if}
-use Rattle.words.specs.laws.Byte.{length_word_if, length_byte_if, other_word, other_word_of_byte, other_byte, other_byte_of_word}
-use Rattle.words.specs.Special.{special_in}
+use Rattle.words.specs.laws.Byte.{other_word, other_byte, other_byte_of_word}
 use Rattle.unit.specs.declared.mux.Port.{Port}
 use Rattle.input.specs.declared.plan.Plan.{Plan}
-use Rattle.input.specs.Input.{error_code, ascii, input_plan, replaced_plan, dropped_plan, done_plan, stored_plan, carried, input_service}
+use Rattle.input.specs.Input.{ascii, input_plan, replaced_plan, done_plan, stored_plan, carried, input_service}
 use Rattle.input.specs.laws.Kept.{icw_of, plan_of, next_of, after, either, Unstored, plan_leaves}
 
 -- ---- of any plan's stores

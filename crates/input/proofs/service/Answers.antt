@@ -1,5 +1,4 @@
 -- `input::service` meets its contract: the words read, the plan and its stores are the definition.
-use borrow.Author.Rules.{rules}
 use Rattle.input.specs.Input.{input_service}
 use Rattle.input.proofs.service.Goals as goal
 

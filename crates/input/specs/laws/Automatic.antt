@@ -7,21 +7,18 @@
 -- In proofs/laws/Automatic, since they rest on these: stored, raised_done.
 -- Not here: the glottal stop and what 7-bit ASCII mode makes of a byte, in Glottal; every other word of the memory, in Kept.
 -- Assumes nothing.
-use Rattle.std.specs.Prelude.{◌≡◌, refl, Bool, true, false, not, ◌&&◌, ◌||◌, List, ◌≢◌, ◌⊎◌, ℕ, ◌+◌, ◌/◌, ◌<◌, eqb, get_or}
-use Rattle.std.proofs.Common.{◌∙◌, ap, sym, inl, inr, arith, lit<}
+use Rattle.std.specs.Prelude.{◌≡◌, refl, Bool, true, false, not, ◌&&◌, ◌||◌, List, ◌≢◌, ◌⊎◌, ℕ, ◌+◌, ◌/◌, eqb, get_or}
+use Rattle.std.proofs.Common.{◌∙◌, ap, inl, inr, arith}
 use Rattle.ground.specs.Choose.{pick, bit}
-use Rattle.ground.specs.laws.Rows.{pick_true, pick-false, bit_below}
 use Rattle.words.specs.Field.{get}
-use Rattle.words.specs.Codes.{at_icw, at_ibp, INDONE, INMO, in_auto, in_echo, flag_none, stored_byte, word_byte}
-use Rattle.words.specs.laws.Codes.{word_fits}
+use Rattle.words.specs.Codes.{at_icw, at_ibp, INDONE, INMO, in_auto, in_echo, flag_none, stored_byte}
 use Rattle.words.specs.Byte.{byte_at, word_if, byte_if}
-use Rattle.words.specs.laws.Byte.{length_word_if, length_byte_if, other_word, other_word_of_byte, other_byte_of_word, read_word, read_byte}
+use Rattle.words.specs.laws.Byte.{length_word_if, length_byte_if, read_word}
 use Rattle.words.specs.Special.{special_in}
 use Rattle.unit.specs.declared.mux.Port.{Port}
 use Rattle.unit.specs.laws.Sound.{Placed}
 use Rattle.input.specs.declared.plan.Plan.{Plan}
 use Rattle.input.specs.Input.{ascii, done_icw, done_plan, stored_plan, input_plan, carried, input_service}
-use Rattle.input.specs.laws.Word.{code_fits, done_done}
 use Rattle.input.specs.laws.Kept.{icw_of, last_of, code_of, plan_of, next_of, after}
 
 -- ICW asks for automatic mode, with echo or without, and INDONE is clear

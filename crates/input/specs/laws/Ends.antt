@@ -10,27 +10,22 @@
 -- Not here: services one after the other, and the count, in words, laws/Buffer; when the end is reached, in words, laws/Pointer; the service by any
 -- rule for the end, in Rules.
 -- Assumes nothing.
-use Rattle.std.specs.Prelude.{◌≡◌, Bool, List, [], ◌∷◌, ◌≢◌, ◌⊎◌, ℕ, ◌+◌, ◌/◌, ◌<◌, ◌≤◌, length, get_or, set, replicate}
+use Rattle.std.specs.Prelude.{◌≡◌, Bool, List, ◌≢◌, ℕ, ◌+◌, ◌/◌, ◌<◌, ◌≤◌, get_or, set, replicate}
 use Rattle.std.proofs.Common.{◌∙◌, inl, inr, arith, lit<, lit≤}
-use Rattle.std.proofs.Math.Path.{ap, refl, sym}
+use Rattle.std.proofs.Math.Path.{refl}
 use Rattle.std.proofs.Math.Bool.{true, false}
-use Rattle.std.proofs.lemmas.Bool.{false≢true}
 use Rattle.ground.specs.Choose.{pick, bit}
-use Rattle.ground.specs.Machine.{run}
-use Rattle.ground.specs.laws.Rows.{pick_true, pick-false, or-false}
 use Rattle.words.specs.Field.{get, put}
-use Rattle.words.specs.Codes.{at_icw, at_ibp, at_lib, INDONE, LEFT, stored_byte}
-use Rattle.words.specs.laws.Codes.{stored_fits}
-use Rattle.words.specs.laws.Pointer.{at_end_iff, goes_on, at_end_was, as_before}
-use Rattle.words.specs.laws.Buffer.{Buffer, room, Steps, Serves, Follow, left, ends}
-use Rattle.words.specs.Byte.{half_at, byte_at, store_byte, word_if, byte_if}
+use Rattle.words.specs.Codes.{at_icw, at_ibp, at_lib, INDONE, stored_byte}
+use Rattle.words.specs.laws.Pointer.{at_end_was, as_before}
+use Rattle.words.specs.laws.Buffer.{Buffer}
+use Rattle.words.specs.Byte.{half_at, store_byte, word_if, byte_if}
 use Rattle.words.specs.Special.{is_special, set1974, special_in}
 use Rattle.unit.specs.declared.mux.Port.{Port}
 use Rattle.unit.specs.laws.Sound.{Placed}
-use Rattle.input.specs.declared.plan.Plan.{Plan}
-use Rattle.input.specs.Input.{error_code, ascii, done_plan, stored_plan, input_plan, carried, input_service}
-use Rattle.input.specs.laws.Kept.{icw_of, last_of, next_of, after, kept_word}
-use Rattle.input.specs.laws.Automatic.{Filling, apart, busy_of, done_of, reported_plan, buffered_plan, automatic}
+use Rattle.input.specs.Input.{error_code, ascii, stored_plan, input_plan, carried, input_service}
+use Rattle.input.specs.laws.Kept.{after}
+use Rattle.input.specs.laws.Automatic.{Filling}
 use Rattle.input.specs.laws.Rules.{input_by, by_the_rules}
 
 -- ICW, IBP and LIB of the port whose block starts at the word a

@@ -12,25 +12,17 @@
 -- Not here: a character in automatic mode, 7-bit ASCII or not, in Automatic; every other word and byte of the memory, in Kept; which codes are special, in words' Special; the glottal stop of an inspection, a
 -- sweep and a call, in laws/Glottal of scan, sweep and door.
 -- Assumes nothing.
-use Rattle.std.specs.Prelude.{◌≡◌, Bool, true, false, not, List, ◌≢◌, ◌⊎◌, ℕ, ◌+◌, ◌/◌, ◌%◌, ◌<◌, eqb, length, get_or}
-use Rattle.std.proofs.Common.{◌∙◌, sym, inl, inr, arith, lit<, ne_eqb}
-use Rattle.std.proofs.Math.Path.{ap, refl}
-use Rattle.std.proofs.Math.Bool.{or-true, and-false}
+use Rattle.std.specs.Prelude.{◌≡◌, Bool, true, false, List, ◌≢◌, ◌⊎◌, ℕ, ◌+◌, ◌/◌, ◌%◌, length, get_or}
+use Rattle.std.proofs.Common.{◌∙◌, sym}
 use Rattle.ground.specs.Choose.{pick}
-use Rattle.ground.specs.laws.Rows.{pick_true}
 use Rattle.words.specs.Field.{get}
-use Rattle.words.specs.Codes.{at_icw, at_ibp, INDONE, INMO, ASCII, FLAGS, flag_none, flag_overload, NOT-ECHOED, SERVICE-OVERLOAD, CHARACTER, stored_byte, word_byte}
-use Rattle.words.specs.laws.Codes.{word_fits}
-use Rattle.words.specs.Byte.{byte_at, word_if, byte_if}
+use Rattle.words.specs.Codes.{at_icw, at_ibp, INDONE, INMO, ASCII, FLAGS, flag_none, flag_overload, NOT-ECHOED, SERVICE-OVERLOAD, CHARACTER, word_byte}
+use Rattle.words.specs.Byte.{byte_at}
 use Rattle.words.specs.Special.{special_in}
-use Rattle.words.specs.laws.Special.{seven_bits}
 use Rattle.unit.specs.declared.mux.Port.{Port}
-use Rattle.unit.specs.laws.Sound.{Placed}
-use Rattle.input.specs.declared.plan.Plan.{Plan}
-use Rattle.input.specs.Input.{error_code, ascii, replaced_plan, done_plan, input_plan, carried, input_service}
-use Rattle.input.specs.laws.Word.{code_fits, done_character, done_mark, done_flags, done_ascii, done_mode, done_overload, done_done, replaced_character, replaced_overload, replaced_flags, replaced_done}
-use Rattle.input.specs.laws.Kept.{icw_of, code_of, plan_of, next_of, after, kept_length, Unstored, indone_set, in_error, special_code}
-use Rattle.input.specs.laws.Automatic.{Filling, apart, reported_plan, buffered_plan, automatic, written, Stored}
+use Rattle.input.specs.Input.{error_code, ascii, input_service}
+use Rattle.input.specs.laws.Kept.{icw_of, code_of, next_of, after}
+use Rattle.input.specs.laws.Automatic.{Filling, Stored}
 
 -- 7-bit ASCII automatic mode, with echo or without, and INDONE clear as read
 pub record Automatic (m : List ℕ) (a : ℕ) : Type 0 where

@@ -7,18 +7,18 @@
 -- In proofs/laws/Kept, since they rest on these: kept_byte, kept_planned, kept_unstored.
 -- Not here: what the words that may change become, in Word, Automatic and Glottal; the port's own changes, in scan.
 -- Assumes nothing.
-use Rattle.std.specs.Prelude.{◌≡◌, refl, Bool, true, false, not, ◌&&◌, List, ◌≢◌, ℕ, ◌+◌, ◌/◌, ◌<◌, eqb, length, get_or}
-use Rattle.std.proofs.Common.{◌∙◌, ap, lit<, ne_eqb}
+use Rattle.std.specs.Prelude.{◌≡◌, refl, Bool, true, false, not, List, ◌≢◌, ℕ, ◌+◌, ◌/◌, eqb, length, get_or}
+use Rattle.std.proofs.Common.{ap, ne_eqb}
 use Rattle.ground.specs.Choose.{pick}
 use Rattle.words.specs.Field.{get}
-use Rattle.words.specs.Codes.{at_icw, at_ibp, at_lib, INDONE, INMO, in_none, in_single, ASCII, flag_none, stored_byte}
+use Rattle.words.specs.Codes.{at_icw, at_ibp, at_lib, INDONE, INMO, in_none, in_single, ASCII, flag_none}
 use Rattle.words.specs.Pointer.{step_ptr, at_end}
-use Rattle.words.specs.Byte.{byte_at, word_if, byte_if}
-use Rattle.words.specs.laws.Byte.{length_word_if, length_byte_if, other_word, other_word_of_byte, other_byte, other_byte_of_word}
+use Rattle.words.specs.Byte.{word_if, byte_if}
+use Rattle.words.specs.laws.Byte.{length_word_if, length_byte_if, other_word, other_word_of_byte}
 use Rattle.words.specs.Special.{special_in}
 use Rattle.unit.specs.declared.mux.Port.{Port}
 use Rattle.input.specs.declared.plan.Plan.{Plan}
-use Rattle.input.specs.Input.{error_code, ascii, input_plan, replaced_plan, dropped_plan, done_plan, stored_plan, carried, input_service}
+use Rattle.input.specs.Input.{error_code, ascii, input_plan, replaced_plan, dropped_plan, done_plan, carried, input_service}
 
 -- ICW of the port whose block starts at the word a
 abbrev pub icw_of : List ℕ → ℕ → ℕ

@@ -1,5 +1,4 @@
 -- `interrupt::cleared` meets its contract: a new one.
-use borrow.Author.Rules.{rules}
 use Rattle.interrupt.specs.Interrupt.{cleared}
 use Rattle.interrupt.proofs.cleared.Goals as goal
 

@@ -1,5 +1,4 @@
 -- `interrupt::dia` meets its contract, kind by kind.
-use borrow.Author.Rules.{rules}
 use Rattle.interrupt.specs.Interrupt.{shown}
 use Rattle.interrupt.proofs.dia.Goals as goal
 

@@ -2,18 +2,15 @@
 -- Here, and not in specs/laws/Stack, is what rests on other laws of specs/: an edit of a definition counts as refused where nothing in specs/ rests on the
 -- law that it breaks.
 -- Assumes nothing.
-use Rattle.std.specs.Prelude.{◌≡◌, refl, Bool, true, false, not, ◌&&◌, ◌||◌, List, [], ◌∷◌, ◌++◌, ℕ, zero, suc, ◌+◌, ◌-◌, ◌≤◌, ◌<◌, ltb, length, take, drop, replicate}
-use Rattle.std.proofs.Common.{sym, ◌∙◌, ap, append-nil, add-one, arith, length-append, length-drop, length-set, take-append-drop, length-take-le, drop-drop, drop-set-lt, take-suc-set, ltb-true, lt-ltb, le-ltb, eq-eqb, ne_eqb}
-use Rattle.std.proofs.Math.Decide.{ℕ_discrete}
-use Rattle.std.proofs.lemmas.List.{replicate-append-replicate, take-append-le, drop-append-le}
+use Rattle.std.specs.Prelude.{◌≡◌, refl, Bool, true, false, List, ℕ, zero, suc, ◌+◌, ◌-◌, ◌<◌, ltb, drop, replicate}
+use Rattle.std.proofs.Common.{sym, ◌∙◌, ap, arith, length-set, drop-drop, drop-set-lt, ltb-true}
 use Rattle.ground.specs.Choose.{pick}
-use Rattle.ground.specs.laws.Rows.{pick_true, pick-false}
 use Rattle.interrupt.specs.declared.Kind.{Kind}
 use Rattle.interrupt.specs.declared.Kind.TheVariants.{Eds8, MightyMux}
 use Rattle.interrupt.specs.declared.Service.{Service}
 use Rattle.interrupt.specs.declared.Irq.{Irq}
-use Rattle.interrupt.specs.Stack.{DEPTH, entries, Tidy, entry, queued, overflowed, pushed, shifted, shorter, removed, remain, popped}
-use Rattle.interrupt.specs.Interrupt.{fresh, cleared, merged, raised, started, ticked}
+use Rattle.interrupt.specs.Stack.{DEPTH, Tidy, entry, queued, overflowed, pushed}
+use Rattle.interrupt.specs.Interrupt.{merged, raised}
 use Rattle.interrupt.specs.laws.Stack.{like}
 
 -- ---- freed places are 0

@@ -1,5 +1,4 @@
 -- `interrupt::merge` meets its contract, by the status word after it.
-use borrow.Author.Rules.{rules}
 use Rattle.interrupt.specs.Interrupt.{merged}
 use Rattle.interrupt.proofs.merge.Goals as goal
 

@@ -1,5 +1,4 @@
 -- `interrupt::raise` meets its contract, kind by kind.
-use borrow.Author.Rules.{rules}
 use Rattle.interrupt.specs.Interrupt.{raised}
 use Rattle.interrupt.proofs.raise.Goals as goal
 

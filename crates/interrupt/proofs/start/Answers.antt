@@ -1,5 +1,4 @@
 -- `interrupt::start` meets its contract, kind by kind.
-use borrow.Author.Rules.{rules}
 use Rattle.interrupt.specs.Interrupt.{started}
 use Rattle.interrupt.proofs.start.Goals as goal
 

@@ -1,6 +1,5 @@
 -- `interrupt::tick` meets its contract: bit 0 and the flag.
 use mathlib.Core.Path.{refl}
-use borrow.Author.Rules.{rules}
 use Rattle.interrupt.specs.Interrupt.{ticked}
 use Rattle.interrupt.proofs.tick.Goals as goal
 

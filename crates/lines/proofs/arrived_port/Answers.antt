@@ -1,5 +1,4 @@
 -- `lines::arrived_port` meets its contract, by what `cut` ensures.
-use borrow.Author.Rules.{rules}
 use Rattle.lines.proofs.arrived_port.Goals as goal
 
 pub returns : goal.returns

@@ -7,19 +7,13 @@
 -- Here, and not in specs/laws/Lines, is what rests on other laws of specs/: an edit of a definition counts as refused where nothing in specs/ rests on the
 -- law that it breaks.
 -- Assumes nothing.
-use Rattle.std.specs.Prelude.{◌≡◌, refl, Bool, true, List, ◌⊎◌, ℕ, ◌<◌, length}
-use Rattle.std.proofs.Common.{sym, ◌∙◌, inr, length-set}
-use Rattle.words.specs.Length.{cut}
-use Rattle.unit.specs.declared.mux.Port.{Port}
+use Rattle.std.specs.Prelude.{◌≡◌, refl, Bool, true, ◌⊎◌, ℕ, ◌<◌, length}
+use Rattle.std.proofs.Common.{◌∙◌, inr, length-set}
 use Rattle.unit.specs.declared.mux.Mux.{Mux}
-use Rattle.unit.specs.Record.{port_at, with_port}
-use Rattle.unit.specs.Reply.{refused, accepted}
+use Rattle.unit.specs.Record.{port_at}
 use Rattle.unit.specs.Refusals.{refusal, of_port}
 use Rattle.unit.specs.Sound.{Sound}
 use Rattle.unit.specs.laws.Sound.{sound_with}
-use Rattle.unit.specs.laws.Replies.{guarded_refused, guarded_accepted}
-use Rattle.unit.proofs.laws.Replies.{either_way}
-use Rattle.unit.specs.laws.Set.{chosen, refusal_unread, again, guarded_unread}
 use Rattle.unit.specs.laws.Ports.{OnlyPort, only_port, held_inside, port_same, port_written}
 use Rattle.lines.specs.declared.signal.Signal.{Signal}
 use Rattle.lines.specs.declared.signal.Signal.TheVariants.{Arrival, TransmitterEmpty, DeviceStatus}

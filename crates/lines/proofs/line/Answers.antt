@@ -1,7 +1,6 @@
 -- `lines::line` meets its contract: the number first, then its port of the record.
 use mathlib.Core.Path.{sym, ◌∙◌}
 use borrow.Author.Tests.{eq-eqb, ne_eqb}
-use borrow.Author.Rules.{rules}
 use Rattle.ground.specs.Choose.{pick}
 use Rattle.unit.specs.Reply.{guarded}
 use Rattle.unit.proofs.laws.Sound.{port_below}

@@ -1,5 +1,4 @@
 -- `lines::signalled` meets its contract, signal by signal.
-use borrow.Author.Rules.{rules}
 use Rattle.lines.specs.Lines.{signalled}
 use Rattle.lines.proofs.signalled.Goals as goal
 

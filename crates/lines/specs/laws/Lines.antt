@@ -7,22 +7,18 @@
 -- In proofs/laws/Lines, since they rest on these: line_keeps, line_sound, line_ports, line_port, line_written, arrived, replaced, emptied, changed.
 -- Not here: that a refused call answers its number, in unit, laws/Replies; how long a held character waits, in waiting.
 -- Assumes nothing.
-use Rattle.std.specs.Prelude.{◌≡◌, refl, Bool, true, List, ◌⊎◌, ℕ, ◌<◌, length}
-use Rattle.std.proofs.Common.{sym, ◌∙◌, inr, length-set}
+use Rattle.std.specs.Prelude.{◌≡◌, refl, Bool, true, List, ℕ}
+use Rattle.std.proofs.Common.{sym}
 use Rattle.words.specs.Length.{cut}
 use Rattle.unit.specs.declared.mux.Port.{Port}
 use Rattle.unit.specs.declared.mux.Mux.{Mux}
 use Rattle.unit.specs.Record.{port_at, with_port}
 use Rattle.unit.specs.Reply.{refused, accepted}
 use Rattle.unit.specs.Refusals.{refusal, of_port}
-use Rattle.unit.specs.Sound.{Sound}
-use Rattle.unit.specs.laws.Sound.{sound_with}
 use Rattle.unit.specs.laws.Replies.{guarded_refused, guarded_accepted}
 use Rattle.unit.proofs.laws.Replies.{either_way}
 use Rattle.unit.specs.laws.Set.{chosen, refusal_unread, again, guarded_unread}
-use Rattle.unit.specs.laws.Ports.{OnlyPort, only_port, held_inside, port_same, port_written}
 use Rattle.lines.specs.declared.signal.Signal.{Signal}
-use Rattle.lines.specs.declared.signal.Signal.TheVariants.{Arrival, TransmitterEmpty, DeviceStatus}
 use Rattle.lines.specs.Lines.{arrived_port, emptied_port, status_port, signalled, line}
 
 -- ---- every signal

@@ -5,27 +5,22 @@
 -- Here, and not in specs/laws/Ends, is what rests on other laws of specs/: an edit of a definition counts as refused where nothing in specs/ rests on the
 -- law that it breaks.
 -- Assumes nothing.
-use Rattle.std.specs.Prelude.{◌≡◌, refl, Bool, true, false, ◌&&◌, ◌||◌, List, [], ◌∷◌, ◌⊎◌, ℕ, ◌+◌, ◌<◌, ◌≤◌, eqb, length, get_or, set, replicate}
-use Rattle.std.proofs.Common.{◌∙◌, sym, inl, inr, arith, lit<, lit≤, get_or-set_same}
+use Rattle.std.specs.Prelude.{◌≡◌, refl, Bool, true, false, List, [], ◌∷◌, ◌⊎◌, ℕ, ◌+◌, ◌<◌, ◌≤◌, length, get_or}
+use Rattle.std.proofs.Common.{◌∙◌, inl, inr, arith, lit≤}
 use Rattle.std.proofs.Math.Path.{ap}
-use Rattle.std.proofs.Math.Seq.{get_or-set_other}
 use Rattle.ground.specs.Choose.{pick, bit}
 use Rattle.ground.specs.Machine.{run}
-use Rattle.ground.specs.laws.Rows.{or-false}
-use Rattle.words.specs.Field.{get, put}
-use Rattle.words.specs.Codes.{at_ocw, at_obp, at_lob, OUTDONE, OUTMO, out_auto, SPECIAL-REQUEST, LEFT}
-use Rattle.words.specs.Pointer.{at_end}
-use Rattle.words.specs.laws.Pointer.{at_end_iff, goes_on, at_end_was, as_before}
+use Rattle.words.specs.Field.{get}
+use Rattle.words.specs.Codes.{at_obp, OUTDONE, OUTMO, LEFT}
+use Rattle.words.specs.laws.Pointer.{at_end_iff, at_end_was, as_before}
 use Rattle.words.specs.laws.Buffer.{Buffer, room, Steps, Serves, Follow, left, ends}
-use Rattle.words.specs.Byte.{half_at, byte_at, word_if}
-use Rattle.words.specs.laws.Byte.{length_word_if, other_word, read_word}
-use Rattle.words.specs.Special.{is_special, set1974, special_in}
+use Rattle.words.specs.Byte.{half_at, byte_at}
+use Rattle.words.specs.laws.Byte.{other_word}
+use Rattle.words.specs.Special.{special_in}
 use Rattle.unit.specs.declared.mux.Port.{Port}
-use Rattle.unit.specs.Record.{fresh_port}
-use Rattle.unit.specs.laws.Sound.{Placed}
 use Rattle.output.specs.declared.plan.Plan.{Plan}
-use Rattle.output.specs.Output.{out_done, is_auto, auto_plan, output_plan, differs, status_bits, becomes_changed, written_ocw, output_service}
-use Rattle.output.specs.laws.Kept.{after, stepped, kept_word}
+use Rattle.output.specs.Output.{auto_plan, written_ocw, output_service}
+use Rattle.output.specs.laws.Kept.{stepped}
 use Rattle.output.specs.laws.Modes.{planned_auto}
 use Rattle.output.specs.laws.Rules.{ocw_of, next_of, fetched_of, output_by, by_the_rules}
 use Rattle.output.specs.laws.Word.{written_done, written_set, written_mode}

@@ -6,20 +6,19 @@
 -- Here, and not in specs/laws/Glottal, is what rests on other laws of specs/: an edit of a definition counts as refused where nothing in specs/ rests on the
 -- law that it breaks.
 -- Assumes nothing.
-use Rattle.std.specs.Prelude.{◌≡◌, Bool, true, false, ◌||◌, List, ℕ, ◌+◌, ◌%◌, eqb, get_or}
+use Rattle.std.specs.Prelude.{◌≡◌, Bool, true, false, ◌||◌, List, ℕ, ◌%◌, eqb}
 use Rattle.std.proofs.Common.{◌∙◌}
 use Rattle.std.proofs.Math.Path.{ap}
 use Rattle.std.proofs.Math.Bool.{and-false, or-true, or-false}
 use Rattle.ground.specs.Choose.{bit}
 use Rattle.words.specs.Field.{get}
-use Rattle.words.specs.Codes.{at_ocw, OUTDONE, SPECIAL-REQUEST}
+use Rattle.words.specs.Codes.{OUTDONE, SPECIAL-REQUEST}
 use Rattle.words.specs.Special.{special_in}
 use Rattle.words.specs.laws.Special.{seven_bits}
 use Rattle.unit.specs.declared.mux.Port.{Port}
-use Rattle.unit.specs.laws.Sound.{Placed}
 use Rattle.output.specs.declared.plan.Plan.{Plan}
 use Rattle.output.specs.Output.{auto_plan, becomes_changed, output_service}
-use Rattle.output.specs.laws.Kept.{after, stepped}
+use Rattle.output.specs.laws.Kept.{stepped}
 use Rattle.output.specs.laws.Modes.{planned_auto}
 use Rattle.output.specs.laws.Rules.{ocw_of, fetched_of}
 use Rattle.output.specs.laws.Word.{written_done}

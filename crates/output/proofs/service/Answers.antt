@@ -1,6 +1,5 @@
 -- `output::service` meets its contract: the words read, the plan and its stores are the definition.
 use Rattle.output.specs.Output.{output_service}
-use borrow.Author.Rules.{rules}
 use Rattle.output.proofs.service.Goals as goal
 
 pub returns : goal.returns

@@ -1,5 +1,4 @@
 -- `processor::after` meets its contract, order by order.
-use borrow.Author.Rules.{rules}
 use Rattle.processor.specs.Processor.{after}
 use Rattle.processor.proofs.after.Goals as goal
 

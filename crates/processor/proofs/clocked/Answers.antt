@@ -1,5 +1,4 @@
 -- `processor::clocked` meets its contract, case by case.
-use borrow.Author.Rules.{rules}
 use Rattle.ground.specs.Choose.{pick}
 use Rattle.processor.proofs.clocked.Goals as goal
 

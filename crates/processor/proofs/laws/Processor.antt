@@ -1,39 +1,30 @@
 -- Laws of what the processor does (document 01, of that name), each said once over the order where it can be.
 --   Keeps, reset_only, order_keeps   every order but reset leaves setting, position and ports as they were
 --   order_unread                  a unit with another set of special codes does the same (document 02, K5)
---   order_stays_sound, -ports     every order leaves a sound record sound, and the array of ports as long as it was
+--   order_stays_sound, _ports     every order leaves a sound record sound, and the array of ports as long as it was
 --   stops, runs_on, runs_after    of a unit that runs: DOB and reset stop it, and no other order does
 --   start_clears, start_removes   START of an EDS-8 clears what DIA shows, and the flag; that of a Mighty Mux removes its oldest entry
 -- Here, and not in specs/laws/Processor, is what rests on other laws of specs/: an edit of a definition counts as refused where nothing in specs/ rests on the
 -- law that it breaks.
 -- Assumes nothing.
-use Rattle.std.specs.Prelude.{◌≡◌, refl, Bool, true, false, not, List, [], ◌∷◌, map, ◌⊎◌, ℕ, zero, suc, ◌<◌, length, get_or}
-use Rattle.std.proofs.Common.{ap, sym, ◌∙◌, true≢false, inl, inr, arith}
-use Rattle.std.proofs.Math.Decide.{ℕ_discrete}
+use Rattle.std.specs.Prelude.{◌≡◌, refl, Bool, true, false, not, List, ◌⊎◌, length}
+use Rattle.std.proofs.Common.{ap, sym, ◌∙◌, true≢false, inl, inr}
 use Rattle.std.proofs.lemmas.List.{length-map}
 use Rattle.ground.specs.Choose.{pick}
-use Rattle.ground.specs.laws.Rows.{pick_true, pick-false}
-use Rattle.words.specs.Field.{get, bits, Whole}
-use Rattle.words.specs.Codes.{SPEED, REAL-TIME}
-use Rattle.words.specs.laws.Field.{whole, get-put, get_put_above}
+use Rattle.words.specs.Field.{get}
+use Rattle.words.specs.Codes.{REAL-TIME}
 use Rattle.interrupt.specs.declared.Kind.TheVariants.{Eds8, MightyMux}
 use Rattle.interrupt.specs.declared.Irq.{Irq}
 use Rattle.interrupt.specs.Interrupt as Interrupt
 use Rattle.interrupt.specs.laws.Interrupt as Irqs
-use Rattle.interrupt.specs.Stack.{remain}
 use Rattle.interrupt.specs.laws.Stack.{start_flag}
 use Rattle.interrupt.specs.laws.Shown.{start_clock}
-use Rattle.unit.specs.declared.mux.Port.{Port}
 use Rattle.unit.specs.declared.mux.Mux.{Mux}
-use Rattle.unit.specs.Record.{no_port, port_at}
-use Rattle.unit.specs.Reply.{refused, accepted}
+use Rattle.unit.specs.Reply.{accepted}
 use Rattle.unit.specs.Refusals.{refusal, of_unit}
 use Rattle.unit.specs.Sound.{Sound}
 use Rattle.unit.specs.laws.Sound.{sound_with}
-use Rattle.unit.proofs.laws.Sound.{sound_iff}
 use Rattle.unit.specs.laws.Set.{chosen, refusal_unread, again, guarded_unread}
-use Rattle.unit.specs.laws.Replies.{guarded_refused, guarded_accepted}
-use Rattle.unit.proofs.laws.Replies.{either_way}
 use Rattle.processor.specs.declared.orders.Order.{Order}
 use Rattle.processor.specs.declared.orders.Order.TheVariants.{Reset, Iopls, Start, Doc, Dob, Dia, Dias, Tick}
 use Rattle.processor.specs.Processor.{reset_port, switched, reset_unit, value_of, after, order, is_reset}

@@ -1,6 +1,5 @@
 -- `processor::order` meets its contract: the number first, then the result and the record after the order.
 use borrow.Author.Tests.{eq-eqb, ne_eqb}
-use borrow.Author.Rules.{rules}
 use Rattle.ground.specs.Choose.{pick}
 use Rattle.unit.specs.Reply.{guarded}
 use Rattle.processor.specs.Processor.{order}

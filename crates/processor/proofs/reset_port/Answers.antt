@@ -1,6 +1,5 @@
 -- `processor::reset_port` meets its contract: speed bits made 0 leave a byte a byte.
 use native.Mathlib.Omega.{arith}
-use borrow.Author.Rules.{rules}
 use Rattle.words.specs.Codes.{SPEED}
 use Rattle.words.specs.laws.Field.{put_zero}
 use Rattle.processor.specs.Processor.{reset_port}

@@ -1,6 +1,6 @@
 -- `processor::reset_ports` meets its contract. The loop's invariant: the ports passed are reset, the rest as they were.
 use mathlib.Core.Path.{◌∙◌, ap, ◌≡◌}
-use Prim.Native.Nat.{ℕ, ◌<◌, ◌≤◌, ◌-◌}
+use Prim.Native.Nat.{ℕ, ◌<◌}
 use native.Mathlib.Numerals.{add-one}
 use native.Mathlib.Omega.{arith}
 use lib.ListN.{length}

@@ -1,13 +1,9 @@
 -- `processor::reset_ports` meets its contract. The loop's invariant: the ports passed are reset, the rest as they were.
-use mathlib.Core.Path.{◌∙◌, ap, ◌≡◌}
-use Prim.Native.Nat.{ℕ, ◌<◌, ◌≤◌, ◌-◌}
-use native.Mathlib.Numerals.{add-one}
-use native.Mathlib.Omega.{arith}
+use mathlib.Core.Path.{◌≡◌}
+use Prim.Native.Nat.{◌≤◌, ◌-◌}
 use lib.ListN.{length}
-use borrow.Author.Rules.{rules}
-use Rattle.ground.specs.laws.Arrays.{map_to, map-none, map-one, map_all}
+use Rattle.ground.specs.laws.Arrays.{map_to}
 use Rattle.processor.specs.Processor.{reset_port}
-use Rattle.unit.specs.Record.{no_port}
 use Rattle.processor.proofs.reset_ports.Given as goal
 
 abbrev pub invariant-loop-i : goal.invariant-loop-i

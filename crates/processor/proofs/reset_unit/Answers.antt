@@ -1,5 +1,4 @@
 -- `processor::reset_unit` meets its contract: each part by what its own function ensures.
-use borrow.Author.Rules.{rules}
 use Rattle.processor.proofs.reset_unit.Goals as goal
 
 pub returns : goal.returns

@@ -1,5 +1,4 @@
 -- `processor::value_of` meets its contract, order by order.
-use borrow.Author.Rules.{rules}
 use Rattle.processor.proofs.value_of.Goals as goal
 
 pub returns-in-Dia : goal.returns-in-Dia

@@ -3,7 +3,7 @@
 --   order_either                  what holds of the record itself and of the record after the order holds of the record that the call gives
 --   Keeps, reset_only, order_keeps   every order but reset leaves setting, position and ports as they were
 --   order_setting                 every order, reset among them, leaves the setting as it was
---   order_stays_sound, -ports     every order leaves a sound record sound, and the array of ports as long as it was
+--   order_stays_sound, _ports     every order leaves a sound record sound, and the array of ports as long as it was
 --   reset_is .. reset_bits        a unit after reset: at rest at port 0; each port's speed bits 000, its other control bits and its Device
 --                                 Status line kept
 --   stops, runs_on, runs_after    of a unit that runs: DOB and reset stop it, and no other order does
@@ -14,22 +14,17 @@
 -- start_removes.
 -- Not here: laws of the interrupt side itself, in interrupt, laws/Interrupt; a run of many orders, in waiting.
 -- Assumes nothing.
-use Rattle.std.specs.Prelude.{◌≡◌, refl, Bool, true, false, not, List, [], ◌∷◌, map, ◌⊎◌, ℕ, zero, suc, ◌<◌, length, get_or}
-use Rattle.std.proofs.Common.{ap, sym, ◌∙◌, true≢false, inl, inr, arith}
+use Rattle.std.specs.Prelude.{◌≡◌, refl, Bool, true, false, List, [], ◌∷◌, map, ℕ, zero, suc, ◌<◌, length, get_or}
+use Rattle.std.proofs.Common.{ap, sym, ◌∙◌, true≢false, arith}
 use Rattle.std.proofs.Math.Decide.{ℕ_discrete}
-use Rattle.std.proofs.lemmas.List.{length-map}
-use Rattle.ground.specs.Choose.{pick}
 use Rattle.ground.specs.laws.Rows.{pick_true, pick-false}
 use Rattle.words.specs.Field.{get, bits, Whole}
 use Rattle.words.specs.Codes.{SPEED, REAL-TIME}
 use Rattle.words.specs.laws.Field.{whole, get-put, get_put_above}
-use Rattle.interrupt.specs.declared.Kind.TheVariants.{Eds8, MightyMux}
-use Rattle.interrupt.specs.declared.Irq.{Irq}
+use Rattle.interrupt.specs.declared.Kind.TheVariants.{MightyMux}
 use Rattle.interrupt.specs.Interrupt as Interrupt
 use Rattle.interrupt.specs.laws.Interrupt as Irqs
 use Rattle.interrupt.specs.Stack.{remain}
-use Rattle.interrupt.specs.laws.Stack.{start_flag}
-use Rattle.interrupt.specs.laws.Shown.{start_clock}
 use Rattle.unit.specs.declared.mux.Port.{Port}
 use Rattle.unit.specs.declared.mux.Mux.{Mux}
 use Rattle.unit.specs.Record.{no_port, port_at}
@@ -38,7 +33,6 @@ use Rattle.unit.specs.Refusals.{refusal, of_unit}
 use Rattle.unit.specs.Sound.{Sound}
 use Rattle.unit.specs.laws.Sound.{sound_with}
 use Rattle.unit.proofs.laws.Sound.{sound_iff}
-use Rattle.unit.specs.laws.Set.{chosen, refusal_unread, again, guarded_unread}
 use Rattle.unit.specs.laws.Replies.{guarded_refused, guarded_accepted}
 use Rattle.unit.proofs.laws.Replies.{either_way}
 use Rattle.processor.specs.declared.orders.Order.{Order}

@@ -1,7 +1,6 @@
 -- `scan::inspect` meets its contract: the number first, then the turn of a unit that runs.
 use mathlib.Core.Path.{sym, ◌∙◌}
 use borrow.Author.Tests.{eq-eqb, ne_eqb}
-use borrow.Author.Rules.{rules}
 use Rattle.ground.specs.Choose.{pick}
 use Rattle.unit.proofs.laws.Sound.{inspection_iff}
 use Rattle.scan.specs.Scan.{inspection}

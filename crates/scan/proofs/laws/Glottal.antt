@@ -5,31 +5,24 @@
 -- Here, and not in specs/laws/Glottal, is what rests on other laws of specs/: an edit of a definition counts as refused where nothing in specs/ rests on the
 -- law that it breaks.
 -- Assumes nothing.
-use Rattle.std.specs.Prelude.{◌≡◌, refl, Bool, true, false, not, ◌&&◌, List, ◌≢◌, ℕ, ◌+◌, ◌/◌, eqb, length}
+use Rattle.std.specs.Prelude.{◌≡◌, refl, Bool, true, false, not, ◌&&◌, List, ◌≢◌, ℕ, ◌+◌, ◌/◌}
 use Rattle.std.proofs.Common.{ap, ◌∙◌, subst, inr, arith}
 use Rattle.std.proofs.Math.Bool.{and-true}
 use Rattle.ground.specs.Choose.{pick}
 use Rattle.interrupt.specs.declared.Service.TheVariants.{Input}
-use Rattle.interrupt.specs.Interrupt.{raised}
 use Rattle.unit.specs.declared.mux.Mux.{Mux}
-use Rattle.unit.specs.declared.reply.Turn.TheVariants.{Served}
-use Rattle.unit.specs.Record.{port_at, block_at, address_at}
-use Rattle.unit.specs.Reply.{Looked}
-use Rattle.unit.specs.Refusals.{WORDS}
-use Rattle.unit.specs.Sound.{Sound}
+use Rattle.unit.specs.Record.{port_at, block_at}
 use Rattle.unit.specs.laws.Sound.{Placed}
 use Rattle.unit.proofs.laws.Sound.{block_inside}
 use Rattle.unit.specs.laws.Ports.{held_inside}
-use Rattle.words.specs.Field.{get}
-use Rattle.words.specs.Codes.{at_icw, INMO, in_echo, flag_none, flag_overload}
+use Rattle.words.specs.Codes.{at_icw, flag_none, flag_overload}
 use Rattle.words.specs.Special.{special_in}
-use Rattle.input.specs.laws.Kept.{icw_of, next_of, after}
-use Rattle.input.specs.laws.Automatic.{done_of}
-use Rattle.input.specs.laws.Glottal.{Automatic, Told, Bar, Apart, marked_code, Lettered}
+use Rattle.input.specs.laws.Kept.{next_of}
+use Rattle.input.specs.laws.Glottal.{Apart, marked_code}
 use Rattle.input.proofs.laws.Glottal.{glottal_stop, glottal_stop_kept}
 use Rattle.scan.specs.Turn.{service, served_turn, irq_after}
 use Rattle.scan.specs.Scan.{service_turn, inspection}
-use Rattle.scan.specs.laws.Scan.{scanned_input, Moves, service_empty}
+use Rattle.scan.specs.laws.Scan.{scanned_input, service_empty}
 use Rattle.scan.proofs.laws.Scan.{sound_scans, scan_moves, turn_takes}
 use Rattle.scan.specs.laws.Glottal.{Waits, Delivered, Typed}
 

@@ -7,11 +7,8 @@ use Rattle.std.specs.Prelude.{◌≡◌, refl, Bool, true, false, List, ℕ}
 use Rattle.ground.specs.Choose.{pick}
 use Rattle.interrupt.specs.declared.Service.{Service}
 use Rattle.interrupt.specs.declared.Service.TheVariants.{Input, Output}
-use Rattle.interrupt.specs.Interrupt.{raised}
 use Rattle.unit.specs.declared.mux.Mux.{Mux}
-use Rattle.unit.specs.declared.reply.Turn.TheVariants.{Served}
-use Rattle.unit.specs.Record.{port_at, block_at, address_at}
-use Rattle.unit.specs.Reply.{Looked}
+use Rattle.unit.specs.Record.{port_at, block_at}
 use Rattle.scan.specs.Turn.{service, irq_after, served_turn, idle_turn}
 use Rattle.scan.specs.Scan.{service_turn, scanned, inspection}
 use Rattle.scan.specs.laws.Scan.{Kind, takes_turn, stands_still, scanned_input, scanned_output, scanned_idle}

@@ -10,9 +10,9 @@
 -- Here, and not in specs/laws/Scan, is what rests on other laws of specs/: an edit of a definition counts as refused where nothing in specs/ rests on the
 -- law that it breaks.
 -- Assumes nothing.
-use Rattle.std.specs.Prelude.{◌≡◌, Bool, not, ◌&&◌, List, ◌⊎◌, ℕ, ◌+◌, ◌%◌, ◌<◌, length}
+use Rattle.std.specs.Prelude.{◌≡◌, Bool, not, ◌&&◌, List, ◌⊎◌, ℕ, ◌<◌, length}
 use Rattle.std.proofs.Math.Path.{refl}
-use Rattle.std.proofs.Common.{ap, sym, ◌∙◌, inl, inr, mod-lt, length-set, ne_eqb}
+use Rattle.std.proofs.Common.{ap, sym, ◌∙◌, inl, inr, length-set}
 use Rattle.std.proofs.Math.Bool.{true, false, and-false}
 use Rattle.std.proofs.lemmas.Bool.{false≢true}
 use Rattle.std.proofs.Math.Decide.{ℕ_discrete}
@@ -25,18 +25,17 @@ use Rattle.interrupt.specs.laws.Interrupt.{raised_sound}
 use Rattle.unit.specs.declared.mux.Setting.{Setting}
 use Rattle.unit.specs.declared.mux.Port.{Port}
 use Rattle.unit.specs.declared.mux.Mux.{Mux}
-use Rattle.unit.specs.declared.reply.Turn.TheVariants.{Idle, Served}
+use Rattle.unit.specs.declared.reply.Turn.TheVariants.{Served}
 use Rattle.unit.specs.Record.{port_at, address_at}
-use Rattle.unit.specs.Reply.{counts, refused, Looked, looked}
+use Rattle.unit.specs.Reply.{counts, Looked}
 use Rattle.unit.specs.Refusals.{WORDS, refusal, of_inspection}
 use Rattle.unit.specs.Sound.{Sound}
-use Rattle.unit.specs.laws.Sound.{sound_with}
 use Rattle.unit.proofs.laws.Sound.{inspection_iff}
 use Rattle.unit.specs.laws.Ports.{held_inside, empty_inside, port_same, port_other, port_written}
 use Rattle.input.specs.laws.Kept.{kept_length as input-length}
 use Rattle.output.specs.laws.Kept.{kept_length as output-length}
 use Rattle.scan.specs.Turn.{service, took, irq_after, Turning, served_turn, idle_turn, turn}
-use Rattle.scan.specs.Scan.{next_pos, moved, looked_at, service_turn, scanned, inspection}
+use Rattle.scan.specs.Scan.{next_pos, moved, service_turn, scanned, inspection}
 use Rattle.scan.specs.laws.Scan.{runs_scans, stopped, inspection_refused, Kind, TurnIs, turn_is, scanned_input, scanned_output, scanned_idle, Does, Moves, moves_sound, service_empty, takes_turn, stands_still, input_turn, output_turn, idle_turn_lem}
 
 -- ---- which inspection is a turn

@@ -1,6 +1,5 @@
 -- `scan::scan` meets its contract: the turn, put into the record.
 use mathlib.Core.Path.{ap}
-use borrow.Author.Rules.{rules}
 use Rattle.scan.specs.Scan.{looked_at, scanned}
 use Rattle.scan.proofs.scan.Goals as goal
 

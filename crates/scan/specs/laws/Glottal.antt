@@ -5,10 +5,7 @@
 -- In proofs/laws/Glottal, since they rest on these: glottal_seen, glottal_seen_marked, glottal_typed.
 -- Not here: the service itself, in laws/Glottal of input; a sweep and a call that inspect, in laws/Glottal of sweep and of door.
 -- Assumes nothing.
-use Rattle.std.specs.Prelude.{◌≡◌, refl, Bool, true, false, not, ◌&&◌, List, ◌≢◌, ℕ, ◌+◌, ◌/◌, eqb, length}
-use Rattle.std.proofs.Common.{ap, ◌∙◌, subst, inr, arith}
-use Rattle.std.proofs.Math.Bool.{and-true}
-use Rattle.ground.specs.Choose.{pick}
+use Rattle.std.specs.Prelude.{◌≡◌, true, false, not, ◌&&◌, List, ℕ, eqb, length}
 use Rattle.interrupt.specs.declared.Service.TheVariants.{Input}
 use Rattle.interrupt.specs.Interrupt.{raised}
 use Rattle.unit.specs.declared.mux.Mux.{Mux}
@@ -17,19 +14,13 @@ use Rattle.unit.specs.Record.{port_at, block_at, address_at}
 use Rattle.unit.specs.Reply.{Looked}
 use Rattle.unit.specs.Refusals.{WORDS}
 use Rattle.unit.specs.Sound.{Sound}
-use Rattle.unit.specs.laws.Sound.{Placed}
-use Rattle.unit.proofs.laws.Sound.{block_inside}
-use Rattle.unit.specs.laws.Ports.{held_inside}
 use Rattle.words.specs.Field.{get}
-use Rattle.words.specs.Codes.{at_icw, INMO, in_echo, flag_none, flag_overload}
-use Rattle.words.specs.Special.{special_in}
-use Rattle.input.specs.laws.Kept.{icw_of, next_of, after}
+use Rattle.words.specs.Codes.{INMO, in_echo}
+use Rattle.input.specs.laws.Kept.{icw_of, after}
 use Rattle.input.specs.laws.Automatic.{done_of}
-use Rattle.input.specs.laws.Glottal.{Automatic, Told, Bar, Apart, marked_code, Lettered}
-use Rattle.input.proofs.laws.Glottal.{glottal_stop, glottal_stop_kept}
-use Rattle.scan.specs.Turn.{service, served_turn, irq_after}
-use Rattle.scan.specs.Scan.{service_turn, inspection}
-use Rattle.scan.specs.laws.Scan.{scanned_input, Moves, service_empty}
+use Rattle.input.specs.laws.Glottal.{Automatic, Told, Bar, Lettered}
+use Rattle.scan.specs.Turn.{irq_after}
+use Rattle.scan.specs.laws.Scan.{Moves}
 
 -- a sound running unit with 32,768 words is at port p, which holds the glottal stop with that error code; the port's mode is 7-bit ASCII
 -- automatic, with echo or without, and INDONE is clear

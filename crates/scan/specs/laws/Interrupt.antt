@@ -3,18 +3,13 @@
 -- In proofs/laws/Interrupt, since they rest on these: inspection_irq.
 -- Not here: what raising one does, in interrupt; which service raises one, in input and output.
 -- Assumes nothing.
-use Rattle.std.specs.Prelude.{◌≡◌, refl, Bool, true, false, List, ℕ}
-use Rattle.ground.specs.Choose.{pick}
+use Rattle.std.specs.Prelude.{◌≡◌, true, false}
 use Rattle.interrupt.specs.declared.Service.{Service}
-use Rattle.interrupt.specs.declared.Service.TheVariants.{Input, Output}
 use Rattle.interrupt.specs.Interrupt.{raised}
 use Rattle.unit.specs.declared.mux.Mux.{Mux}
 use Rattle.unit.specs.declared.reply.Turn.TheVariants.{Served}
-use Rattle.unit.specs.Record.{port_at, block_at, address_at}
+use Rattle.unit.specs.Record.{address_at}
 use Rattle.unit.specs.Reply.{Looked}
-use Rattle.scan.specs.Turn.{service, irq_after, served_turn, idle_turn}
-use Rattle.scan.specs.Scan.{service_turn, scanned, inspection}
-use Rattle.scan.specs.laws.Scan.{Kind, takes_turn, stands_still, scanned_input, scanned_output, scanned_idle}
 
 -- what an inspection of the unit u left: an interrupt that the service k of the port at the position raised, with that port's address; or nothing of the kind
 pub data Interrupts (u : Mux) (l : Looked) : Type 0 where

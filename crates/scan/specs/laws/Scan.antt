@@ -11,33 +11,27 @@
 -- inspection_setting, inspection_sound, inspection_ports, turn_takes, service_sent, inspection_sent.
 -- Not here: what a turn is, in specs/Turn; what a service does to the memory, in laws/Kept of input and of output; bounds on waiting, in waiting.
 -- Assumes nothing.
-use Rattle.std.specs.Prelude.{◌≡◌, Bool, not, ◌&&◌, List, ◌⊎◌, ℕ, ◌+◌, ◌%◌, ◌<◌, length}
+use Rattle.std.specs.Prelude.{◌≡◌, Bool, not, ◌&&◌, List, ℕ, ◌+◌, ◌%◌, ◌<◌, length}
 use Rattle.std.proofs.Math.Path.{refl}
-use Rattle.std.proofs.Common.{ap, sym, ◌∙◌, inl, inr, mod-lt, length-set, ne_eqb}
-use Rattle.std.proofs.Math.Bool.{true, false, and-false}
-use Rattle.std.proofs.lemmas.Bool.{false≢true}
-use Rattle.std.proofs.Math.Decide.{ℕ_discrete}
+use Rattle.std.proofs.Common.{ap, mod-lt, ne_eqb}
+use Rattle.std.proofs.Math.Bool.{true, false}
 use Rattle.ground.specs.Choose.{pick}
 use Rattle.interrupt.specs.declared.Service.{Service}
 use Rattle.interrupt.specs.declared.Service.TheVariants.{Input, Output}
 use Rattle.interrupt.specs.declared.Irq.{Irq}
 use Rattle.interrupt.specs.Interrupt.{unsound}
-use Rattle.interrupt.specs.laws.Interrupt.{raised_sound}
 use Rattle.unit.specs.declared.mux.Setting.{Setting}
 use Rattle.unit.specs.declared.mux.Port.{Port}
 use Rattle.unit.specs.declared.mux.Mux.{Mux}
 use Rattle.unit.specs.declared.reply.Turn.TheVariants.{Idle, Served}
-use Rattle.unit.specs.Record.{port_at, address_at}
+use Rattle.unit.specs.Record.{port_at}
 use Rattle.unit.specs.Reply.{counts, refused, Looked, looked}
-use Rattle.unit.specs.Refusals.{WORDS, refusal, of_inspection}
+use Rattle.unit.specs.Refusals.{refusal, of_inspection}
 use Rattle.unit.specs.Sound.{Sound}
 use Rattle.unit.specs.laws.Sound.{sound_with}
-use Rattle.unit.proofs.laws.Sound.{inspection_iff}
-use Rattle.unit.specs.laws.Ports.{held_inside, empty_inside, port_same, port_other, port_written}
-use Rattle.input.specs.laws.Kept.{kept_length as input-length}
-use Rattle.output.specs.laws.Kept.{kept_length as output-length}
-use Rattle.scan.specs.Turn.{service, took, irq_after, Turning, served_turn, idle_turn, turn}
-use Rattle.scan.specs.Scan.{next_pos, moved, looked_at, service_turn, scanned, inspection}
+use Rattle.unit.specs.laws.Ports.{port_same}
+use Rattle.scan.specs.Turn.{took, Turning, served_turn, idle_turn, turn}
+use Rattle.scan.specs.Scan.{looked_at, service_turn, scanned, inspection}
 
 -- ---- which inspection is a turn
 

@@ -6,26 +6,21 @@
 -- In proofs/laws/Set, since they rest on these: as_before.
 -- Not here: the services themselves, in laws/Set of input and of output; a sweep, in laws/Set of sweep.
 -- Assumes nothing.
-use Rattle.std.specs.Prelude.{◌≡◌, refl, Bool, List, ℕ, eqb}
-use Rattle.std.proofs.Common.{◌∙◌, ap}
+use Rattle.std.specs.Prelude.{◌≡◌, refl, List, ℕ, eqb}
 use Rattle.ground.specs.Choose.{pick}
 use Rattle.interrupt.specs.declared.Service.{Service}
 use Rattle.interrupt.specs.declared.Service.TheVariants.{Input, Output}
 use Rattle.interrupt.specs.declared.Irq.{Irq}
 use Rattle.words.specs.Pointer.{at_end}
-use Rattle.words.specs.Special.{is_special, set1974}
+use Rattle.words.specs.Special.{is_special}
 use Rattle.unit.specs.declared.mux.Setting.{Setting}
 use Rattle.unit.specs.declared.mux.Port.{Port}
 use Rattle.unit.specs.declared.mux.Mux.{Mux}
 use Rattle.unit.specs.Record.{port_at, block_at}
 use Rattle.unit.specs.Reply.{nothing, refused, answered, Serviced, Looked, looked}
 use Rattle.unit.specs.Refusals.{refusal, of_inspection}
-use Rattle.input.specs.Input.{input_service}
 use Rattle.input.specs.laws.Rules.{input_by}
-use Rattle.input.specs.laws.Set.{default_same as input-same}
-use Rattle.output.specs.Output.{output_service}
 use Rattle.output.specs.laws.Rules.{output_by}
-use Rattle.output.proofs.laws.Set.{default_same as output-same}
 use Rattle.scan.specs.Turn.{service, Turning, turning, served_as, served_turn, idle_turn, turn}
 use Rattle.scan.specs.Scan.{looked_at, scanned, inspection}
 

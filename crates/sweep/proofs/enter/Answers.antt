@@ -1,6 +1,5 @@
 -- `sweep::enter` meets its contract, case by case.
 use native.Mathlib.Omega.{arith}
-use borrow.Author.Rules.{rules}
 use Rattle.ground.specs.Choose.{pick, bit}
 use Rattle.sweep.specs.Sweep.{entered}
 use Rattle.sweep.proofs.enter.Goals as goal

@@ -1,5 +1,5 @@
 -- `sweep::go` meets its contract. The loop's invariant: the inspections left to make from here are the rest of the sweep.
-use mathlib.Core.Path.{sym, ◌∙◌, ap, subst⁻¹}
+use mathlib.Core.Path.{ap, subst⁻¹}
 use Prim.Native.Nat.{ℕ}
 use native.Mathlib.Omega.{arith}
 use borrow.Author.Rules.{rules}

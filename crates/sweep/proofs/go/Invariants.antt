@@ -1,12 +1,6 @@
 -- `sweep::go` meets its contract. The loop's invariant: the inspections left to make from here are the rest of the sweep.
-use mathlib.Core.Path.{sym, ◌∙◌, ap, subst⁻¹}
-use Prim.Native.Nat.{ℕ}
-use native.Mathlib.Omega.{arith}
-use borrow.Author.Rules.{rules}
-use Rattle.unit.specs.Record.{port_at}
-use Rattle.scan.specs.Scan.{next_pos}
-use Rattle.sweep.proofs.Way.{On, set_on, pos_small, port_small, again, fewer, off}
-use Rattle.sweep.specs.Sweep.{arrived_at, set_out}
+use Rattle.sweep.proofs.Way.{On}
+use Rattle.sweep.specs.Sweep.{set_out}
 use Rattle.sweep.proofs.go.Given as goal
 
 abbrev pub invariant-loop-left : goal.invariant-loop-left

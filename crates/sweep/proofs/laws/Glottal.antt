@@ -6,11 +6,9 @@
 use Rattle.std.specs.Prelude.{◌≡◌, refl, List, ℕ, suc}
 use Rattle.ground.specs.Choose.{pick, bit}
 use Rattle.unit.specs.declared.mux.Mux.{Mux}
-use Rattle.unit.specs.Reply.{Outcome}
 use Rattle.unit.specs.Refusals.{refusal, of_sweep}
 use Rattle.input.specs.laws.Glottal.{Apart}
-use Rattle.scan.specs.Scan.{inspection}
-use Rattle.scan.specs.laws.Glottal.{Waits, Delivered}
+use Rattle.scan.specs.laws.Glottal.{Waits}
 use Rattle.scan.proofs.laws.Glottal.{glottal_seen}
 use Rattle.sweep.specs.Sweep.{entered, going, set_out, sweep}
 use Rattle.sweep.specs.laws.Sweep.{sweep_raised, sweep_accepted}

@@ -9,7 +9,7 @@ use Rattle.ground.specs.Choose.{pick}
 use Rattle.words.specs.Special.{set1974}
 use Rattle.unit.specs.declared.mux.Setting.{Setting}
 use Rattle.unit.specs.declared.mux.Mux.{Mux}
-use Rattle.unit.specs.Reply.{refused, Looked, Outcome, outcome}
+use Rattle.unit.specs.Reply.{refused, Looked, outcome}
 use Rattle.unit.specs.Refusals.{refusal, of_sweep}
 use Rattle.scan.specs.Scan.{inspection}
 use Rattle.scan.proofs.laws.Scan.{inspection_setting}

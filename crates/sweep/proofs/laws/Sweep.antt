@@ -2,26 +2,24 @@
 --   Sweeping, sweeps                  a sweep is the composition of the inspections it counts: n, or fewer only because the last one raised
 --   handed, Gathers, gathers          the places used hold what the inspections handed over, in order
 --   Gathered, gathered                the list of the call: what was handed over, and then the rest as it was
---   sweep_keeps, -sound, -ports       refused or not, the call leaves a sound record sound, and the array of ports as long as it was
+--   sweep_keeps, _sound, _ports       refused or not, the call leaves a sound record sound, and the array of ports as long as it was
 -- Here, and not in specs/laws/Sweep, is what rests on other laws of specs/: an edit of a definition counts as refused where nothing in specs/ rests on the
 -- law that it breaks.
 -- Assumes nothing.
-use Rattle.std.specs.Prelude.{◌≡◌, refl, Bool, true, false, List, [], ◌∷◌, ◌++◌, ℕ, zero, suc, ◌+◌, ◌≤◌, eqb, length, set, drop}
-use Rattle.std.proofs.Common.{sym, ◌∙◌, ap, true≢false, zero-add, add-zero, arith, length-set, eq-eqb, ne_eqb}
+use Rattle.std.specs.Prelude.{◌≡◌, refl, Bool, true, false, List, [], ◌∷◌, ◌++◌, ℕ, zero, suc, ◌+◌, ◌≤◌, length, set, drop}
+use Rattle.std.proofs.Common.{sym, ◌∙◌, ap, true≢false, zero-add, add-zero, arith}
 use Rattle.std.proofs.Math.Decide.{ℕ_discrete}
 use Rattle.std.proofs.lemmas.List.Edits.{sets, sets-eq}
 use Rattle.ground.specs.Choose.{pick, bit}
-use Rattle.ground.specs.laws.Rows.{pick_true, pick-false}
 use Rattle.unit.specs.declared.mux.Mux.{Mux}
 use Rattle.unit.specs.declared.reply.Answer.{Answer}
-use Rattle.unit.specs.declared.reply.Turn.TheVariants.{Nothing}
-use Rattle.unit.specs.Reply.{refused, World, world, Looked, Outcome, outcome}
+use Rattle.unit.specs.Reply.{World, world, Looked}
 use Rattle.unit.specs.Refusals.{refusal, of_sweep}
 use Rattle.unit.specs.Sound.{Sound}
 use Rattle.unit.proofs.laws.Sound.{sweep_iff}
 use Rattle.scan.specs.Scan.{inspection}
-use Rattle.scan.proofs.laws.Scan.{inspection_runs, inspection_sound, inspection_ports}
-use Rattle.sweep.specs.Sweep.{Going, entry_of, entered, going, sweep_from, set_out, arrived_at, sweep}
+use Rattle.scan.proofs.laws.Scan.{inspection_sound, inspection_ports}
+use Rattle.sweep.specs.Sweep.{Going, entry_of, entered, going, sweep_from, set_out, sweep}
 use Rattle.sweep.specs.laws.Sweep.{look, sweep_end, sweep_stopped, sweep_raised, sweep_more, Looks, Sweeping, one_more, runs_on, handed_by, handed, Gathers, Keeps, looks_keep, sweep_refused, sweep_accepted, Gathered, none, last, more}
 
 -- ---- the inspections that it makes

@@ -1,5 +1,4 @@
 -- `sweep::left_after` meets its contract, case by case.
-use borrow.Author.Rules.{rules}
 use Rattle.ground.specs.Choose.{pick}
 use Rattle.sweep.proofs.left_after.Goals as goal
 

@@ -1,7 +1,6 @@
 -- `sweep::sweep` meets its contract: the number first, then as many inspections as the rule asks.
 use mathlib.Core.Path.{sym, ◌∙◌}
 use borrow.Author.Tests.{eq-eqb, ne_eqb}
-use borrow.Author.Rules.{rules}
 use Rattle.ground.specs.Choose.{pick}
 use Rattle.unit.proofs.laws.Sound.{sweep_iff}
 use Rattle.sweep.specs.Sweep.{sweep}

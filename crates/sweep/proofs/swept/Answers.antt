@@ -1,5 +1,4 @@
 -- `sweep::swept` meets its contract, by what its parts ensure.
-use borrow.Author.Rules.{rules}
 use Rattle.sweep.proofs.swept.Goals as goal
 
 pub returns : goal.returns

@@ -3,17 +3,11 @@
 -- In proofs/laws/Glottal, since they rest on these: glottal_swept.
 -- Not here: that inspection, in laws/Glottal of scan.
 -- Assumes nothing.
-use Rattle.std.specs.Prelude.{◌≡◌, refl, List, ℕ, suc}
-use Rattle.ground.specs.Choose.{pick, bit}
+use Rattle.std.specs.Prelude.{◌≡◌, List, ℕ}
 use Rattle.unit.specs.declared.mux.Mux.{Mux}
 use Rattle.unit.specs.Reply.{Outcome}
-use Rattle.unit.specs.Refusals.{refusal, of_sweep}
-use Rattle.input.specs.laws.Glottal.{Apart}
 use Rattle.scan.specs.Scan.{inspection}
-use Rattle.scan.specs.laws.Glottal.{Waits, Delivered}
-use Rattle.scan.proofs.laws.Glottal.{glottal_seen}
-use Rattle.sweep.specs.Sweep.{entered, going, set_out, sweep}
-use Rattle.sweep.specs.laws.Sweep.{sweep_raised, sweep_accepted}
+use Rattle.scan.specs.laws.Glottal.{Delivered}
 
 -- one inspection was made and no list place used; it delivered the glottal stop, and the record and the memory are as it left them
 pub record Swept (u : Mux) (m : List ℕ) (p code : ℕ) (xs : List ℕ) (o : Outcome) : Type 0 where

@@ -3,18 +3,12 @@
 -- In proofs/laws/Set, since they rest on these: as_before.
 -- Not here: an inspection by the services as they were, in laws/Set of scan.
 -- Assumes nothing.
-use Rattle.std.specs.Prelude.{◌≡◌, refl, List, ℕ, zero, suc, eqb}
-use Rattle.std.proofs.Common.{◌∙◌, ap}
+use Rattle.std.specs.Prelude.{List, ℕ, zero, suc, eqb}
 use Rattle.ground.specs.Choose.{pick}
-use Rattle.words.specs.Special.{set1974}
-use Rattle.unit.specs.declared.mux.Setting.{Setting}
 use Rattle.unit.specs.declared.mux.Mux.{Mux}
 use Rattle.unit.specs.Reply.{refused, Looked, Outcome, outcome}
 use Rattle.unit.specs.Refusals.{refusal, of_sweep}
-use Rattle.scan.specs.Scan.{inspection}
-use Rattle.scan.proofs.laws.Scan.{inspection_setting}
-use Rattle.scan.specs.laws.Set.{inspection_by, service_was}
-use Rattle.sweep.specs.Sweep.{Going, going, sweep_from, set_out, arrived_at, sweep}
+use Rattle.sweep.specs.Sweep.{Going, going, set_out, arrived_at}
 
 -- n inspections, each by this one
 unfoldable pub sweep_from_by : (Mux → List ℕ → Looked) → ℕ → Going → Going

@@ -1,6 +1,6 @@
 -- Laws of a sweep (document 01, Sweep).
 --   look                              the inspection that comes next
---   sweep_end, -stopped, -raised, -more   how a sweep goes on
+--   sweep_end, _stopped, _raised, _more   how a sweep goes on
 --   Looks                             so many inspections one after the other, and whether the last one raised an interrupt
 --   Sweeping, sweeps                  a sweep is the composition of the inspections it counts: n, or fewer only because the last one raised
 --   Listed, one_listed                what one inspection leaves of the list
@@ -9,14 +9,13 @@
 --   looks_keep                        what every inspection keeps, inspections one after the other keep
 --   sweep_refused, sweep_accepted     the call
 --   Gathered, gathered                the list of the call: what was handed over, and then the rest as it was
---   sweep_keeps, -sound, -ports       refused or not, the call leaves a sound record sound, and the array of ports as long as it was
+--   sweep_keeps, _sound, _ports       refused or not, the call leaves a sound record sound, and the array of ports as long as it was
 -- In proofs/laws/Sweep, since they rest on these: sweeps, gathers, gathered, sweep_keeps, sweep_sound, sweep_ports.
 -- Not here: what a sweep is, in specs/Sweep; that a list of calls may be read with its sweeps as inspections, in calls, laws/Singles.
 -- Assumes nothing.
 use Rattle.std.specs.Prelude.{◌≡◌, refl, Bool, true, false, List, [], ◌∷◌, ◌++◌, ℕ, zero, suc, ◌+◌, ◌≤◌, eqb, length, set, drop}
-use Rattle.std.proofs.Common.{sym, ◌∙◌, ap, true≢false, zero-add, add-zero, arith, length-set, eq-eqb, ne_eqb}
-use Rattle.std.proofs.Math.Decide.{ℕ_discrete}
-use Rattle.std.proofs.lemmas.List.Edits.{sets, sets-eq}
+use Rattle.std.proofs.Common.{arith, length-set, eq-eqb, ne_eqb}
+use Rattle.std.proofs.lemmas.List.Edits.{sets}
 use Rattle.ground.specs.Choose.{pick, bit}
 use Rattle.ground.specs.laws.Rows.{pick_true, pick-false}
 use Rattle.unit.specs.declared.mux.Mux.{Mux}
@@ -24,10 +23,8 @@ use Rattle.unit.specs.declared.reply.Answer.{Answer}
 use Rattle.unit.specs.declared.reply.Turn.TheVariants.{Nothing}
 use Rattle.unit.specs.Reply.{refused, World, world, Looked, Outcome, outcome}
 use Rattle.unit.specs.Refusals.{refusal, of_sweep}
-use Rattle.unit.specs.Sound.{Sound}
-use Rattle.unit.proofs.laws.Sound.{sweep_iff}
 use Rattle.scan.specs.Scan.{inspection}
-use Rattle.scan.proofs.laws.Scan.{inspection_runs, inspection_sound, inspection_ports}
+use Rattle.scan.proofs.laws.Scan.{inspection_runs}
 use Rattle.sweep.specs.Sweep.{Going, entry_of, entered, going, sweep_from, set_out, arrived_at, sweep}
 
 -- the inspection that comes next

@@ -7,16 +7,15 @@
 -- Here, and not in specs/laws/Area, is what rests on other laws of specs/: an edit of a definition counts as refused where nothing in specs/ rests on the
 -- law that it breaks.
 -- Assumes nothing.
-use Rattle.std.specs.Prelude.{◌≡◌, refl, true, false, List, [], ◌∷◌, ◌++◌, map, ◌↔◌, ℕ, ◌+◌, ◌*◌, ◌<◌, ◌≤◌, eqb, ltb}
-use Rattle.std.proofs.Common.{sym, ◌∙◌, ltb-true, lt-ltb, le-ltb}
+use Rattle.std.specs.Prelude.{◌≡◌, refl, false, ◌+◌, ◌*◌, ◌≤◌, ltb}
+use Rattle.std.proofs.Common.{sym, ◌∙◌, le-ltb}
 use Rattle.std.proofs.Math.Option.{none}
-use Rattle.ground.specs.Choose.{pick, asked, Row, row, first_of}
+use Rattle.ground.specs.Choose.{first_of}
 use Rattle.ground.specs.laws.Rows.{first_zero, never, first_idle}
 use Rattle.interrupt.specs.declared.Kind.TheVariants.{Eds8}
 use Rattle.unit.specs.declared.mux.Setting.{Setting}
 use Rattle.unit.specs.declared.mux.Mux.{Mux}
-use Rattle.unit.specs.Record.{no_setting}
-use Rattle.unit.specs.Refusals.{WORDS, BAD-BLOCK, CROSSES, TOO-HIGH, bad_block, bad_ports, misaligned, too_high, bad_location, crosses, size_rows, base_rows, area_rows, setting_rows, unsound, Given, rows_of, call_rows, table_of, refusal, of_setup}
+use Rattle.unit.specs.Refusals.{WORDS, bad_block, too_high, crosses, size_rows, area_rows, unsound, Given, refusal, of_setup}
 use Rattle.unit.specs.Setup.{setup}
 use Rattle.unit.specs.laws.Sound.{good_block, low_base, good_area, area_ends}
 use Rattle.unit.proofs.laws.Sound.{setup_iff, fits_end}

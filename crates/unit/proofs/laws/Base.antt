@@ -4,22 +4,20 @@
 -- Here, and not in specs/laws/Base, is what rests on other laws of specs/: an edit of a definition counts as refused where nothing in specs/ rests on the
 -- law that it breaks.
 -- Assumes nothing.
-use Rattle.std.specs.Prelude.{◌≡◌, refl, Bool, true, false, not, ◌||◌, List, [], ◌∷◌, ◌++◌, ◌↔◌, ℕ, ◌*◌, ◌%◌, ◌<◌, ◌≤◌, eqb, ltb}
-use Rattle.std.proofs.Common.{sym, ap, ◌∙◌, true≢false, arith}
+use Rattle.std.specs.Prelude.{◌≡◌, refl, Bool, true, false, ◌||◌, [], ◌∷◌, ◌++◌, ℕ, eqb}
+use Rattle.std.proofs.Common.{sym, ap, ◌∙◌, arith}
 use Rattle.std.proofs.Math.Option.{none}
-use Rattle.ground.specs.Choose.{pick, Row, row, first_of}
-use Rattle.ground.specs.laws.Rows.{first_zero, never, first_at}
+use Rattle.ground.specs.Choose.{pick, first_of}
+use Rattle.ground.specs.laws.Rows.{never}
 use Rattle.interrupt.specs.declared.Kind.TheVariants.{Eds8}
 use Rattle.unit.specs.declared.mux.Setting.{Setting}
 use Rattle.unit.specs.declared.mux.Mux.{Mux}
 use Rattle.unit.specs.declared.reply.Replied.{Replied}
 use Rattle.unit.specs.Record.{fresh, no_mux}
 use Rattle.unit.specs.Reply.{refused, accepted, guarded}
-use Rattle.unit.specs.Refusals.{MISALIGNED, TOO-HIGH, BAD-LOCATION, bad_block, bad_ports, misaligned, too_high, bad_location, crosses, size_rows, base_rows, area_rows, setting_rows, unsound, Given, refusal, of_setup}
+use Rattle.unit.specs.Refusals.{TOO-HIGH, bad_block, bad_ports, misaligned, too_high, size_rows, area_rows, unsound, Given, refusal, of_setup}
 use Rattle.unit.specs.Setup.{setup}
-use Rattle.unit.specs.Sound.{SizeFits}
 use Rattle.unit.specs.laws.Refusals.{setup_refusal}
-use Rattle.unit.specs.laws.Sound.{good_base, low_base, size_fits}
 use Rattle.unit.specs.laws.Location.{rows_before}
 use Rattle.unit.proofs.laws.Location.{eds8_number}
 use Rattle.unit.specs.laws.Area.{five, rows_with_five}

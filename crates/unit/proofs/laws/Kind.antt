@@ -4,20 +4,13 @@
 -- Here, and not in specs/laws/Kind, is what rests on other laws of specs/: an edit of a definition counts as refused where nothing in specs/ rests on the
 -- law that it breaks.
 -- Assumes nothing.
-use Rattle.std.specs.Prelude.{◌≡◌, refl, Bool, true, false, not, ◌||◌, ◌<◌, eqb, leb}
-use Rattle.std.proofs.Common.{ap, lt-ltb}
-use Rattle.std.proofs.Math.Option.{some, none}
-use Rattle.ground.specs.Choose.{first_of}
-use Rattle.interrupt.specs.declared.Kind.{Kind}
+use Rattle.std.specs.Prelude.{◌≡◌}
+use Rattle.std.proofs.Common.{ap}
 use Rattle.interrupt.specs.declared.Kind.TheVariants.{Eds8}
-use Rattle.interrupt.specs.Stack.{DEPTH}
-use Rattle.interrupt.specs.Interrupt as Interrupt
 use Rattle.unit.specs.declared.mux.Setting.{Setting}
-use Rattle.unit.specs.declared.mux.Mux.{Mux}
 use Rattle.unit.specs.declared.reply.Replied.{Replied}
-use Rattle.unit.specs.Refusals.{UNSOUND, setting_rows, unsound, Given, refusal, of_setup}
+use Rattle.unit.specs.Refusals.{refusal, of_setup}
 use Rattle.unit.specs.Setup.{setup}
-use Rattle.unit.specs.laws.Refusals.{unsound_first}
 use Rattle.unit.proofs.laws.Replies.{setup_accepted, setup_refused}
 
 -- the record has the kind that setup was given

@@ -9,11 +9,11 @@
 -- Here, and not in specs/laws/Location, is what rests on other laws of specs/: an edit of a definition counts as refused where nothing in specs/ rests on the
 -- law that it breaks.
 -- Assumes nothing.
-use Rattle.std.specs.Prelude.{◌≡◌, refl, Bool, true, false, not, List, [], ◌∷◌, ◌++◌, ◌↔◌, ◌⊎◌, ℕ, ◌*◌, ◌%◌, ◌≤◌}
-use Rattle.std.proofs.Common.{sym, ap, ◌∙◌, inl, inr, arith, ne_eqb}
+use Rattle.std.specs.Prelude.{◌≡◌, refl, Bool, true, false, not, ◌↔◌, ◌⊎◌, ℕ, ◌%◌}
+use Rattle.std.proofs.Common.{sym, ap, ◌∙◌, inl, inr, ne_eqb}
 use Rattle.std.proofs.lemmas.Bool.{false≢true, eqb-false, not-true}
 use Rattle.std.proofs.Math.Option.{some, none}
-use Rattle.ground.specs.Choose.{pick, Row, row, first_of}
+use Rattle.ground.specs.Choose.{pick, row, first_of}
 use Rattle.ground.specs.laws.Rows.{first_zero, never, first_at, first_put}
 use Rattle.interrupt.specs.declared.Kind.{Kind}
 use Rattle.interrupt.specs.declared.Kind.TheVariants.{Eds8, MightyMux}
@@ -21,12 +21,11 @@ use Rattle.unit.specs.declared.mux.Setting.{Setting}
 use Rattle.unit.specs.declared.mux.Mux.{Mux}
 use Rattle.unit.specs.Record.{fresh, no_mux}
 use Rattle.unit.specs.Reply.{refused, accepted, guarded}
-use Rattle.unit.specs.Refusals.{MISALIGNED, TOO-HIGH, BAD-LOCATION, misaligned, too_high, bad_location, size_rows, base_rows, area_rows, setting_rows, unsound, Given, refusal, of_setup, of_unit}
+use Rattle.unit.specs.Refusals.{BAD-LOCATION, bad_location, size_rows, base_rows, area_rows, setting_rows, unsound, Given, refusal, of_setup, of_unit}
 use Rattle.unit.specs.Setup.{setup}
-use Rattle.unit.specs.Sound.{IsBlock, SizeFits, BaseFits}
 use Rattle.unit.specs.laws.Refusals.{setup_refusal, unsound_first}
 use Rattle.unit.proofs.laws.Refusals.{setting_unsound}
-use Rattle.unit.specs.laws.Sound.{good_base, low_base, size_fits, by_block}
+use Rattle.unit.specs.laws.Sound.{good_base, low_base, size_fits}
 use Rattle.unit.proofs.laws.Sound.{setup_iff, sound_iff}
 use Rattle.unit.specs.laws.Tables.{setup_by, unsound_by, call_rows_by, same_setup, alike_by, OfEds8}
 use Rattle.unit.proofs.laws.Tables.{same_sound, same_calls}

@@ -3,15 +3,11 @@
 -- Here, and not in specs/laws/Refusals, is what rests on other laws of specs/: an edit of a definition counts as refused where nothing in specs/ rests on the
 -- law that it breaks.
 -- Assumes nothing.
-use Rattle.std.specs.Prelude.{◌≡◌, refl, Bool, true, false, not, ◌||◌, List, [], ◌∷◌, ◌++◌, map, ◌↔◌, ℕ, eqb, leb, ltb, length}
-use Rattle.std.proofs.Common.{sym, ap, ◌∙◌, eq-eqb, ne_eqb}
-use Rattle.std.proofs.Math.Option.{Option, some, none}
-use Rattle.ground.specs.Choose.{pick, asked, Row, first_of}
-use Rattle.ground.specs.laws.Rows.{Gives, first_gives, absent, never, first_then, first_stops}
+use Rattle.std.specs.Prelude.{◌≡◌, true, false, ◌||◌, leb}
+use Rattle.std.proofs.Common.{sym, ◌∙◌, eq-eqb, ne_eqb}
 use Rattle.interrupt.specs.Interrupt as Interrupt
-use Rattle.unit.specs.declared.mux.Setting.{Setting}
 use Rattle.unit.specs.declared.mux.Mux.{Mux}
-use Rattle.unit.specs.Refusals.{WORDS, MOST-INSPECTIONS, UNSOUND, BAD-MEMORY, TOO-MANY, SHORT-LIST, size_rows, base_rows, area_rows, setting_rows, unsound, Given, rows_of, call_rows, table_of, refusal, of_setup, of_unit, of_inspection, of_sweep}
+use Rattle.unit.specs.Refusals.{unsound, refusal, of_setup}
 use Rattle.unit.specs.laws.Refusals.{setup_refusal, by_setting}
 
 -- ---- setup's number and row 6

@@ -1,21 +1,17 @@
 -- The number of each answer; what a call leaves, refused or not (document 01, below the table of refusals).
 --   either_way                   what holds of the record itself and of the record after holds of what a call leaves
 --   Answered, guarded_answers    a reply that has the number k, and keeps the record where k is a refusal
---   setup_accepted, -refused     of setup: a fresh unit, or the number and the record of zeros
+--   setup_accepted, _refused     of setup: a fresh unit, or the number and the record of zeros
 -- Here, and not in specs/laws/Replies, is what rests on other laws of specs/: an edit of a definition counts as refused where nothing in specs/ rests on the
 -- law that it breaks.
 -- Assumes nothing.
-use Rattle.std.specs.Prelude.{◌≡◌, refl, [], ◌∷◌, map, ℕ, eqb}
+use Rattle.std.specs.Prelude.{◌≡◌, ℕ}
 use Rattle.std.proofs.Math.Decide.{ℕ_discrete}
-use Rattle.std.proofs.Common.{eq-eqb, ne_eqb}
-use Rattle.ground.specs.laws.Rows.{pick_true, pick-false}
-use Rattle.interrupt.specs.declared.Service.TheVariants.{Input, Output}
 use Rattle.unit.specs.declared.mux.Setting.{Setting}
 use Rattle.unit.specs.declared.mux.Mux.{Mux}
-use Rattle.unit.specs.declared.reply.Turn.TheVariants.{Nothing, Idle, Served}
 use Rattle.unit.specs.declared.reply.Replied.{Replied}
 use Rattle.unit.specs.Record.{fresh, no_mux}
-use Rattle.unit.specs.Reply.{turn_number, refused, accepted, guarded}
+use Rattle.unit.specs.Reply.{refused, accepted, guarded}
 use Rattle.unit.specs.Refusals.{refusal, of_setup}
 use Rattle.unit.specs.Setup.{setup}
 use Rattle.unit.specs.laws.Replies.{guarded_refused, guarded_accepted, Answered}

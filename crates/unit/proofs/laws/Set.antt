@@ -5,18 +5,14 @@
 -- Here, and not in specs/laws/Set, is what rests on other laws of specs/: an edit of a definition counts as refused where nothing in specs/ rests on the
 -- law that it breaks.
 -- Assumes nothing.
-use Rattle.std.specs.Prelude.{◌≡◌, refl, Bool, true, false, List, ℕ, ◌%◌, eqb}
+use Rattle.std.specs.Prelude.{◌≡◌, Bool, false, List, ℕ, ◌%◌}
 use Rattle.std.proofs.Common.{ap, ◌∙◌, arith}
-use Rattle.std.proofs.Math.Option.{Option, some, none, map}
 use Rattle.std.proofs.Math.Decide.{ℕ_discrete}
 use Rattle.std.proofs.lemmas.List.{get_or-replicate}
-use Rattle.ground.specs.Choose.{pick, asked}
 use Rattle.words.specs.Special.{special_in}
 use Rattle.unit.specs.declared.mux.Setting.{Setting}
-use Rattle.unit.specs.declared.mux.Mux.{Mux}
 use Rattle.unit.specs.declared.reply.Replied.{Replied}
-use Rattle.unit.specs.Reply.{refused, guarded}
-use Rattle.unit.specs.Refusals.{size_rows, base_rows, area_rows, setting_rows, unsound, Given, rows_of, call_rows, table_of, refusal, of_setup}
+use Rattle.unit.specs.Refusals.{refusal, of_setup}
 use Rattle.unit.specs.Setup.{setup}
 use Rattle.unit.proofs.laws.Replies.{setup_accepted, setup_refused}
 use Rattle.unit.specs.laws.Set.{choosing, chosen, refusal_unread}

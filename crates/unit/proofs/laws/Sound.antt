@@ -8,21 +8,19 @@
 -- Here, and not in specs/laws/Sound, is what rests on other laws of specs/: an edit of a definition counts as refused where nothing in specs/ rests on the
 -- law that it breaks.
 -- Assumes nothing.
-use Rattle.std.specs.Prelude.{◌≡◌, refl, true, false, not, ◌||◌, List, ◌++◌, ◌↔◌, ◌⊎◌, ℕ, ◌+◌, ◌-◌, ◌*◌, ◌/◌, ◌%◌, ◌<◌, ◌≤◌, eqb, leb, ltb, length}
-use Rattle.std.proofs.Common.{ap, ◌∙◌, sym, true≢false, inl, inr, mul-pos, mul-le-mul, mul-le-mul_right, arith, ltb-false, leb-false, eqb-true, le-ltb, eq-eqb, ne_eqb}
+use Rattle.std.specs.Prelude.{◌≡◌, refl, false, not, List, ◌++◌, ◌↔◌, ℕ, ◌+◌, ◌*◌, ◌<◌, ◌≤◌, leb, length}
+use Rattle.std.proofs.Common.{ap, ◌∙◌, sym, true≢false, mul-le-mul_right, arith, ltb-false, leb-false, eqb-true, le-ltb, eq-eqb}
 use Rattle.std.proofs.Math.Decide.{ℕ_discrete}
-use Rattle.std.proofs.lemmas.Bool.{eqb-false, not-false, lt-leb}
+use Rattle.std.proofs.lemmas.Bool.{not-false, lt-leb}
 use Rattle.ground.specs.Choose.{asked, first_of}
-use Rattle.ground.specs.laws.Rows.{or-false, or-true, both_false, first_zero, first_both}
-use Rattle.interrupt.specs.declared.Kind.{Kind}
-use Rattle.interrupt.specs.declared.Kind.TheVariants.{Eds8, MightyMux}
+use Rattle.ground.specs.laws.Rows.{or-false, both_false, first_zero, first_both}
 use Rattle.interrupt.specs.Interrupt as Interrupt
 use Rattle.interrupt.specs.laws.Interrupt as Irq
 use Rattle.unit.specs.declared.mux.Setting.{Setting}
 use Rattle.unit.specs.declared.mux.Mux.{Mux}
-use Rattle.unit.specs.Record.{fresh, no_mux, block_at}
-use Rattle.unit.specs.Refusals.{WORDS, MOST-PORTS, MOST-INSPECTIONS, AREA-STEP, bad_block, bad_ports, misaligned, too_high, bad_location, crosses, size_rows, base_rows, area_rows, setting_rows, unsound, rows_of, call_rows, table_of, refusal, of_setup, of_unit, of_port, of_inspection, of_sweep}
-use Rattle.unit.specs.Sound.{IsBlock, eight, sixteen, thirty_two, SizeFits, BaseFits, AreaFits, Fits, Sound}
+use Rattle.unit.specs.Record.{fresh, block_at}
+use Rattle.unit.specs.Refusals.{WORDS, size_rows, base_rows, area_rows, setting_rows, unsound, rows_of, call_rows, table_of, refusal, of_setup, of_unit, of_port, of_inspection, of_sweep}
+use Rattle.unit.specs.Sound.{Fits, Sound}
 use Rattle.unit.specs.laws.Refusals.{setup_refusal}
 use Rattle.unit.proofs.laws.Refusals.{setting_unsound, setting_passed}
 use Rattle.unit.specs.laws.Sound.{size_fits, base_fits, area_fits, SweepTaken, block_bounds, area_ends}

@@ -3,21 +3,15 @@
 -- Here, and not in specs/laws/Tables, is what rests on other laws of specs/: an edit of a definition counts as refused where nothing in specs/ rests on the
 -- law that it breaks.
 -- Assumes nothing.
-use Rattle.std.specs.Prelude.{◌≡◌, Bool, not, ◌||◌, List, ◌∷◌, ℕ, eqb, leb, drop}
+use Rattle.std.specs.Prelude.{◌≡◌, List, eqb}
 use Rattle.std.proofs.Math.Path.{refl}
-use Rattle.std.proofs.Common.{sym, ap, ◌∙◌}
 use Rattle.std.proofs.Math.Option.{Option, some, none}
-use Rattle.ground.specs.Choose.{asked, Row, row, first_of}
+use Rattle.ground.specs.Choose.{asked, Row, first_of}
 use Rattle.interrupt.specs.declared.Kind.TheVariants.{Eds8}
-use Rattle.interrupt.specs.Interrupt as Interrupt
 use Rattle.unit.specs.declared.mux.Setting.{Setting}
 use Rattle.unit.specs.declared.mux.Mux.{Mux}
-use Rattle.unit.specs.declared.reply.Replied.{Replied}
-use Rattle.unit.specs.Record.{fresh, no_mux}
-use Rattle.unit.specs.Reply.{accepted, guarded}
-use Rattle.unit.specs.Refusals.{UNSOUND, setting_rows, unsound, Given, rows_of, call_rows, table_of, refusal, of_setup}
-use Rattle.unit.specs.Setup.{setup}
-use Rattle.unit.specs.laws.Refusals.{setup_refusal, by_setting}
+use Rattle.unit.specs.Refusals.{unsound, Given, rows_of, call_rows, table_of, refusal}
+use Rattle.unit.specs.laws.Refusals.{by_setting}
 use Rattle.unit.specs.laws.Tables.{unsound_by, call_rows_by, Alike, OfEds8}
 
 -- ---- rows as they were, and today's

@@ -6,20 +6,13 @@
 -- In proofs/laws/Area, since they rest on these: rows_end, taken_end, five_idle, five_never, setup_unchanged, sound_unchanged, calls_unchanged.
 -- Not here: the same in numbers, in Sound; that no call is refused with 5, in Refusals.
 -- Assumes nothing.
-use Rattle.std.specs.Prelude.{◌≡◌, refl, true, false, List, [], ◌∷◌, ◌++◌, map, ◌↔◌, ℕ, ◌+◌, ◌*◌, ◌<◌, ◌≤◌, eqb, ltb}
-use Rattle.std.proofs.Common.{sym, ◌∙◌, ltb-true, lt-ltb, le-ltb}
-use Rattle.std.proofs.Math.Option.{none}
+use Rattle.std.specs.Prelude.{◌≡◌, refl, true, List, [], ◌∷◌, ◌++◌, map, ◌↔◌, ℕ, ◌+◌, ◌*◌, ◌<◌, eqb, ltb}
+use Rattle.std.proofs.Common.{ltb-true, lt-ltb}
 use Rattle.ground.specs.Choose.{pick, asked, Row, row, first_of}
-use Rattle.ground.specs.laws.Rows.{first_zero, never, first_idle}
-use Rattle.interrupt.specs.declared.Kind.TheVariants.{Eds8}
 use Rattle.unit.specs.declared.mux.Setting.{Setting}
-use Rattle.unit.specs.declared.mux.Mux.{Mux}
 use Rattle.unit.specs.Record.{no_setting}
-use Rattle.unit.specs.Refusals.{WORDS, BAD-BLOCK, CROSSES, TOO-HIGH, bad_block, bad_ports, misaligned, too_high, bad_location, crosses, size_rows, base_rows, area_rows, setting_rows, unsound, Given, rows_of, call_rows, table_of, refusal, of_setup}
-use Rattle.unit.specs.Setup.{setup}
-use Rattle.unit.specs.laws.Sound.{good_block, low_base, good_area, area_ends}
+use Rattle.unit.specs.Refusals.{BAD-BLOCK, CROSSES, TOO-HIGH, bad_block, bad_ports, misaligned, too_high, bad_location, crosses, size_rows, base_rows, area_rows, setting_rows, rows_of, call_rows, table_of, refusal, of_setup}
 use Rattle.unit.specs.laws.Location.{rows_before}
-use Rattle.unit.specs.laws.Tables.{setup_by, unsound_by, call_rows_by, same_setup, alike_by, OfEds8}
 
 -- ---- the table as it was
 

@@ -6,24 +6,19 @@
 -- Not here: the table itself, in specs/Refusals; the law for every row, in Refusals; setup, row 6 and the other calls by any rows, in Tables.
 -- Assumes nothing.
 use Rattle.std.specs.Prelude.{◌≡◌, refl, Bool, true, false, not, ◌||◌, List, [], ◌∷◌, ◌++◌, ◌↔◌, ℕ, ◌*◌, ◌%◌, ◌<◌, ◌≤◌, eqb, ltb}
-use Rattle.std.proofs.Common.{sym, ap, ◌∙◌, true≢false, arith}
-use Rattle.std.proofs.Math.Option.{none}
-use Rattle.ground.specs.Choose.{pick, Row, row, first_of}
-use Rattle.ground.specs.laws.Rows.{first_zero, never, first_at}
-use Rattle.interrupt.specs.declared.Kind.TheVariants.{Eds8}
+use Rattle.std.proofs.Common.{sym, ◌∙◌, true≢false, arith}
+use Rattle.ground.specs.Choose.{Row, row}
+use Rattle.ground.specs.laws.Rows.{first_zero, first_at}
 use Rattle.unit.specs.declared.mux.Setting.{Setting}
-use Rattle.unit.specs.declared.mux.Mux.{Mux}
-use Rattle.unit.specs.declared.reply.Replied.{Replied}
-use Rattle.unit.specs.Record.{fresh, no_mux}
-use Rattle.unit.specs.Reply.{refused, accepted, guarded}
-use Rattle.unit.specs.Refusals.{MISALIGNED, TOO-HIGH, BAD-LOCATION, bad_block, bad_ports, misaligned, too_high, bad_location, crosses, size_rows, base_rows, area_rows, setting_rows, unsound, Given, refusal, of_setup}
+use Rattle.unit.specs.Record.{no_mux}
+use Rattle.unit.specs.Reply.{refused}
+use Rattle.unit.specs.Refusals.{MISALIGNED, TOO-HIGH, BAD-LOCATION, bad_block, bad_ports, misaligned, too_high, bad_location, crosses, size_rows, base_rows, area_rows, setting_rows, refusal, of_setup}
 use Rattle.unit.specs.Setup.{setup}
 use Rattle.unit.specs.Sound.{SizeFits}
 use Rattle.unit.specs.laws.Refusals.{setup_refusal}
 use Rattle.unit.specs.laws.Sound.{good_base, low_base, size_fits}
-use Rattle.unit.specs.laws.Location.{rows_before}
-use Rattle.unit.specs.laws.Area.{five, rows_with_five}
-use Rattle.unit.specs.laws.Tables.{setup_by, unsound_by, call_rows_by, same_setup, Alike, OfEds8}
+use Rattle.unit.specs.laws.Area.{five}
+use Rattle.unit.specs.laws.Tables.{setup_by}
 
 -- ---- the two numbers, each in numbers
 

@@ -5,18 +5,15 @@
 -- Not here: the one row that asks it, in Location; that no other call changes it, in calls, laws/Set; what a kind does, in interrupt.
 -- Assumes nothing.
 use Rattle.std.specs.Prelude.{◌≡◌, refl, Bool, true, false, not, ◌||◌, ◌<◌, eqb, leb}
-use Rattle.std.proofs.Common.{ap, lt-ltb}
+use Rattle.std.proofs.Common.{lt-ltb}
 use Rattle.std.proofs.Math.Option.{some, none}
 use Rattle.ground.specs.Choose.{first_of}
 use Rattle.interrupt.specs.declared.Kind.{Kind}
-use Rattle.interrupt.specs.declared.Kind.TheVariants.{Eds8}
 use Rattle.interrupt.specs.Stack.{DEPTH}
 use Rattle.interrupt.specs.Interrupt as Interrupt
 use Rattle.unit.specs.declared.mux.Setting.{Setting}
 use Rattle.unit.specs.declared.mux.Mux.{Mux}
-use Rattle.unit.specs.declared.reply.Replied.{Replied}
-use Rattle.unit.specs.Refusals.{UNSOUND, setting_rows, unsound, Given, refusal, of_setup}
-use Rattle.unit.specs.Setup.{setup}
+use Rattle.unit.specs.Refusals.{UNSOUND, setting_rows, unsound, Given, refusal}
 use Rattle.unit.specs.laws.Refusals.{unsound_first}
 
 -- the setting with another kind

@@ -6,25 +6,14 @@
 -- location_changed, eds8_number, eds8_setup, eds8_sound, eds8_calls, kind_asked, kind_32.
 -- Not here: the table itself, in specs/Refusals; the law for every row, in Refusals; setup, row 6 and the other calls by any rows, in Tables.
 -- Assumes nothing.
-use Rattle.std.specs.Prelude.{◌≡◌, refl, Bool, true, false, not, List, [], ◌∷◌, ◌++◌, ◌↔◌, ◌⊎◌, ℕ, ◌*◌, ◌%◌, ◌≤◌}
-use Rattle.std.proofs.Common.{sym, ap, ◌∙◌, inl, inr, arith, ne_eqb}
-use Rattle.std.proofs.lemmas.Bool.{false≢true, eqb-false, not-true}
-use Rattle.std.proofs.Math.Option.{some, none}
-use Rattle.ground.specs.Choose.{pick, Row, row, first_of}
-use Rattle.ground.specs.laws.Rows.{first_zero, never, first_at, first_put}
-use Rattle.interrupt.specs.declared.Kind.{Kind}
-use Rattle.interrupt.specs.declared.Kind.TheVariants.{Eds8, MightyMux}
+use Rattle.std.specs.Prelude.{◌≡◌, List, [], ◌∷◌, ◌++◌, ◌↔◌, ℕ, ◌*◌, ◌%◌, ◌≤◌}
+use Rattle.std.proofs.Common.{arith}
+use Rattle.ground.specs.Choose.{Row, row}
+use Rattle.interrupt.specs.declared.Kind.TheVariants.{MightyMux}
 use Rattle.unit.specs.declared.mux.Setting.{Setting}
-use Rattle.unit.specs.declared.mux.Mux.{Mux}
-use Rattle.unit.specs.Record.{fresh, no_mux}
-use Rattle.unit.specs.Reply.{refused, accepted, guarded}
-use Rattle.unit.specs.Refusals.{MISALIGNED, TOO-HIGH, BAD-LOCATION, misaligned, too_high, bad_location, size_rows, base_rows, area_rows, setting_rows, unsound, Given, refusal, of_setup, of_unit}
-use Rattle.unit.specs.Setup.{setup}
+use Rattle.unit.specs.Refusals.{MISALIGNED, TOO-HIGH, misaligned, too_high, size_rows, area_rows}
 use Rattle.unit.specs.Sound.{IsBlock, SizeFits, BaseFits}
-use Rattle.unit.specs.laws.Refusals.{setup_refusal, unsound_first}
-use Rattle.unit.specs.laws.Sound.{good_base, low_base, size_fits, by_block}
-use Rattle.unit.specs.laws.Tables.{setup_by, unsound_by, call_rows_by, same_setup, alike_by, OfEds8}
-use Rattle.unit.specs.laws.Kind.{of_kind}
+use Rattle.unit.specs.laws.Sound.{by_block}
 
 -- ---- the number, in numbers
 

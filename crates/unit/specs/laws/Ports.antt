@@ -1,6 +1,6 @@
 -- Laws of the ports of a record.
 --   held_inside, empty_inside       a port that holds a character, or whose transmitter is empty, is one of the array's
---   port_same, -other, -written     the port that was written, and every other port
+--   port_same, _other, _written     the port that was written, and every other port
 --   OnlyPort                        two records that differ in one port at most
 -- Not here: what a port is and where its control block lies, in specs/Record and laws/Sound.
 -- Assumes nothing.

@@ -1,24 +1,19 @@
 -- The number of each answer; what a call leaves, refused or not (document 01, below the table of refusals).
 --   turn_numbers                 every answer of an inspection with its number
---   guarded_refused, -accepted   a refused call gives its number, 0 and the same record; another what it does
+--   guarded_refused, _accepted   a refused call gives its number, 0 and the same record; another what it does
 --   Answered, guarded_answers    a reply that has the number k, and keeps the record where k is a refusal
---   setup_accepted, -refused     of setup: a fresh unit, or the number and the record of zeros
+--   setup_accepted, _refused     of setup: a fresh unit, or the number and the record of zeros
 -- In proofs/laws/Replies, since they rest on these: either_way, guarded_answers, setup_accepted, setup_refused.
 -- Not here: what a reply is, in specs/Reply; that every call answers so, in calls, laws/Refusals.
 -- Assumes nothing.
 use Rattle.std.specs.Prelude.{◌≡◌, refl, [], ◌∷◌, map, ℕ, eqb}
-use Rattle.std.proofs.Math.Decide.{ℕ_discrete}
 use Rattle.std.proofs.Common.{eq-eqb, ne_eqb}
 use Rattle.ground.specs.laws.Rows.{pick_true, pick-false}
 use Rattle.interrupt.specs.declared.Service.TheVariants.{Input, Output}
-use Rattle.unit.specs.declared.mux.Setting.{Setting}
 use Rattle.unit.specs.declared.mux.Mux.{Mux}
 use Rattle.unit.specs.declared.reply.Turn.TheVariants.{Nothing, Idle, Served}
 use Rattle.unit.specs.declared.reply.Replied.{Replied}
-use Rattle.unit.specs.Record.{fresh, no_mux}
-use Rattle.unit.specs.Reply.{turn_number, refused, accepted, guarded}
-use Rattle.unit.specs.Refusals.{refusal, of_setup}
-use Rattle.unit.specs.Setup.{setup}
+use Rattle.unit.specs.Reply.{turn_number, refused, guarded}
 
 -- a stopped or refused inspection, a turn that serves nothing, input, output
 pub turn_numbers : map turn_number (Nothing ∷ Idle ∷ Served Input ∷ Served Output ∷ []) ≡ 0 ∷ 1 ∷ 2 ∷ 3 ∷ []

@@ -6,19 +6,14 @@
 -- Not here: what a set says of a code, in words, laws/Special; that no other call changes it, in calls, laws/Set; what a service makes of it, in
 -- laws/Set of input, output and scan.
 -- Assumes nothing.
-use Rattle.std.specs.Prelude.{◌≡◌, refl, Bool, true, false, List, ℕ, ◌%◌, eqb}
-use Rattle.std.proofs.Common.{ap, ◌∙◌, arith}
+use Rattle.std.specs.Prelude.{◌≡◌, refl, Bool, true, false, List, ℕ, eqb}
 use Rattle.std.proofs.Math.Option.{Option, some, none, map}
-use Rattle.std.proofs.Math.Decide.{ℕ_discrete}
-use Rattle.std.proofs.lemmas.List.{get_or-replicate}
 use Rattle.ground.specs.Choose.{pick, asked}
-use Rattle.words.specs.Special.{special_in}
 use Rattle.unit.specs.declared.mux.Setting.{Setting}
 use Rattle.unit.specs.declared.mux.Mux.{Mux}
 use Rattle.unit.specs.declared.reply.Replied.{Replied}
 use Rattle.unit.specs.Reply.{refused, guarded}
-use Rattle.unit.specs.Refusals.{size_rows, base_rows, area_rows, setting_rows, unsound, Given, rows_of, call_rows, table_of, refusal, of_setup}
-use Rattle.unit.specs.Setup.{setup}
+use Rattle.unit.specs.Refusals.{size_rows, base_rows, area_rows, setting_rows, unsound, Given, rows_of, call_rows, table_of, refusal}
 
 -- the setting with another set
 abbrev pub choosing : List Bool → Setting → Setting

@@ -10,22 +10,19 @@
 -- block_inside, port_below.
 -- Not here: what fits and what is sound, in specs/Sound; what a refused call leaves, in Replies.
 -- Assumes nothing.
-use Rattle.std.specs.Prelude.{◌≡◌, refl, true, false, not, ◌||◌, List, ◌++◌, ◌↔◌, ◌⊎◌, ℕ, ◌+◌, ◌-◌, ◌*◌, ◌/◌, ◌%◌, ◌<◌, ◌≤◌, eqb, leb, ltb, length}
-use Rattle.std.proofs.Common.{ap, ◌∙◌, sym, true≢false, inl, inr, mul-pos, mul-le-mul, mul-le-mul_right, arith, ltb-false, leb-false, eqb-true, le-ltb, eq-eqb, ne_eqb}
-use Rattle.std.proofs.Math.Decide.{ℕ_discrete}
-use Rattle.std.proofs.lemmas.Bool.{eqb-false, not-false, lt-leb}
-use Rattle.ground.specs.Choose.{asked, first_of}
-use Rattle.ground.specs.laws.Rows.{or-false, or-true, both_false, first_zero, first_both}
+use Rattle.std.specs.Prelude.{◌≡◌, refl, true, false, not, ◌||◌, List, ◌↔◌, ◌⊎◌, ℕ, ◌+◌, ◌-◌, ◌*◌, ◌/◌, ◌%◌, ◌<◌, ◌≤◌, eqb, ltb, length}
+use Rattle.std.proofs.Common.{ap, inl, inr, mul-pos, mul-le-mul, arith, ltb-false, eqb-true, le-ltb, eq-eqb, ne_eqb}
+use Rattle.std.proofs.lemmas.Bool.{eqb-false, not-false}
+use Rattle.ground.specs.Choose.{first_of}
+use Rattle.ground.specs.laws.Rows.{or-false, or-true, both_false, first_zero}
 use Rattle.interrupt.specs.declared.Kind.{Kind}
 use Rattle.interrupt.specs.declared.Kind.TheVariants.{Eds8, MightyMux}
 use Rattle.interrupt.specs.Interrupt as Interrupt
-use Rattle.interrupt.specs.laws.Interrupt as Irq
 use Rattle.unit.specs.declared.mux.Setting.{Setting}
 use Rattle.unit.specs.declared.mux.Mux.{Mux}
-use Rattle.unit.specs.Record.{fresh, no_mux, block_at}
-use Rattle.unit.specs.Refusals.{WORDS, MOST-PORTS, MOST-INSPECTIONS, AREA-STEP, bad_block, bad_ports, misaligned, too_high, bad_location, crosses, size_rows, base_rows, area_rows, setting_rows, unsound, rows_of, call_rows, table_of, refusal, of_setup, of_unit, of_port, of_inspection, of_sweep}
-use Rattle.unit.specs.Sound.{IsBlock, eight, sixteen, thirty_two, SizeFits, BaseFits, AreaFits, Fits, Sound}
-use Rattle.unit.specs.laws.Refusals.{setup_refusal}
+use Rattle.unit.specs.Record.{no_mux}
+use Rattle.unit.specs.Refusals.{WORDS, MOST-PORTS, MOST-INSPECTIONS, AREA-STEP, bad_block, bad_ports, misaligned, too_high, bad_location, crosses, size_rows, base_rows, area_rows}
+use Rattle.unit.specs.Sound.{IsBlock, eight, sixteen, thirty_two, SizeFits, BaseFits, AreaFits, Sound}
 
 -- ---- the rows, read in numbers
 

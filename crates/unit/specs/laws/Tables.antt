@@ -7,9 +7,8 @@
 -- Not here: rows as they were, in Location, Area and Base.
 -- Assumes nothing.
 use Rattle.std.specs.Prelude.{◌≡◌, Bool, not, ◌||◌, List, ◌∷◌, ℕ, eqb, leb, drop}
-use Rattle.std.proofs.Math.Path.{refl}
 use Rattle.std.proofs.Common.{sym, ap, ◌∙◌}
-use Rattle.std.proofs.Math.Option.{Option, some, none}
+use Rattle.std.proofs.Math.Option.{some}
 use Rattle.ground.specs.Choose.{asked, Row, row, first_of}
 use Rattle.interrupt.specs.declared.Kind.TheVariants.{Eds8}
 use Rattle.interrupt.specs.Interrupt as Interrupt
@@ -18,9 +17,9 @@ use Rattle.unit.specs.declared.mux.Mux.{Mux}
 use Rattle.unit.specs.declared.reply.Replied.{Replied}
 use Rattle.unit.specs.Record.{fresh, no_mux}
 use Rattle.unit.specs.Reply.{accepted, guarded}
-use Rattle.unit.specs.Refusals.{UNSOUND, setting_rows, unsound, Given, rows_of, call_rows, table_of, refusal, of_setup}
+use Rattle.unit.specs.Refusals.{UNSOUND, setting_rows, Given, call_rows, refusal, of_setup}
 use Rattle.unit.specs.Setup.{setup}
-use Rattle.unit.specs.laws.Refusals.{setup_refusal, by_setting}
+use Rattle.unit.specs.laws.Refusals.{setup_refusal}
 
 -- ---- by any rows
 

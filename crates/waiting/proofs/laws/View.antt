@@ -16,7 +16,7 @@ use Rattle.unit.specs.declared.mux.Setting.{Setting}
 use Rattle.unit.specs.declared.mux.Port.{Port}
 use Rattle.unit.specs.declared.mux.Mux.{Mux}
 use Rattle.unit.specs.Record.{no_port, fresh_port, fresh, port_at}
-use Rattle.unit.specs.Reply.{counts, refused, accepted, World, world, Looked, looked}
+use Rattle.unit.specs.Reply.{counts, refused, accepted, World, Looked, looked}
 use Rattle.unit.specs.Refusals.{refusal, of_setup, of_unit, of_port}
 use Rattle.unit.proofs.laws.Replies.{setup_accepted}
 use Rattle.unit.proofs.laws.Sound.{sound_iff, port_iff, inspection_iff}

@@ -6,7 +6,7 @@
 --   idle_line, idle_line_lem         an idle line: once its output was served, a stop that comes later breaks no wait
 -- Not here: the bounds themselves, in Enough of proofs/laws; what each of the four inspections served, in calls, Examples.
 -- Assumes nothing.
-use Rattle.std.specs.Prelude.{◌≡◌, refl, Bool, true, false, List, [], ◌∷◌, ◌++◌, ◌⊎◌, ℕ, ◌+◌, ◌*◌, ◌≤◌, ◌<◌, get_or, replicate, set}
+use Rattle.std.specs.Prelude.{◌≡◌, refl, Bool, true, false, List, [], ◌∷◌, ◌++◌, get_or, replicate, set}
 use Rattle.std.proofs.Common.{sym, ◌∙◌, ap, true≢false, arith}
 use Rattle.ground.specs.Choose.{bit}
 use Rattle.ground.specs.Machine.{run, total, tally, Until}
@@ -21,7 +21,7 @@ use Rattle.calls.specs.Events.{Single, does, after, run_singles}
 use Rattle.calls.specs.Examples.{unit_after, look, typed, clear, filling, waiting}
 use Rattle.calls.specs.laws.Examples.{everything}
 use Rattle.waiting.specs.Counting.{service_at, output_at, unrefused, is_arrival, brings_to, takes_at}
-use Rattle.waiting.specs.Waiting.{P, Running, Holds, Empty, Since, Takes, Stops, inspections, inputs, outputs, taken, Served, Replaced, Broken, OutputServed, Echoed, OutputBroken}
+use Rattle.waiting.specs.Waiting.{Holds, Empty, Stops, inspections, inputs, outputs, taken, Broken, OutputBroken}
 
 -- one port, its input automatic with echo, its buffer not near the end; its transmitter is empty, and a character has arrived
 abbrev pub echoing : World

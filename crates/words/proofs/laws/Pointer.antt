@@ -4,11 +4,10 @@
 -- Here, and not in specs/laws/Pointer, is what rests on other laws of specs/: an edit of a definition counts as refused where nothing in specs/ rests on the
 -- law that it breaks.
 -- Assumes nothing.
-use Rattle.std.specs.Prelude.{◌≡◌, ℕ, ◌+◌, ◌<◌, ◌≤◌, Bool, true, false, ◌||◌, ◌==◌, nat_le, refl}
-use Rattle.std.proofs.Common.{◌∙◌, sym, arith, leb-true, leb-false, le-leb, eqb-true, ne_eqb}
+use Rattle.std.specs.Prelude.{◌≡◌, ℕ, ◌+◌, ◌<◌, Bool, true, false, ◌||◌, nat_le, refl}
+use Rattle.std.proofs.Common.{◌∙◌, sym, arith, leb-true, leb-false, le-leb}
 use Rattle.std.proofs.Math.Bool.{or-true, or-false}
-use Rattle.std.proofs.lemmas.Bool.{lt-leb, eqb-false}
-use Rattle.words.specs.Pointer.{step_ptr, at_end}
+use Rattle.words.specs.Pointer.{at_end}
 use Rattle.words.specs.laws.Pointer.{at_end_iff, at_end_was, as_before}
 
 pub top_ends : (end : ℕ) → end < 65536 → at_end 65535 end ≡ true

@@ -8,9 +8,8 @@
 -- In proofs/laws/Pointer, since they rest on these: top_ends, zero_ends, at_or_past.
 -- Not here: the definition, in specs/Pointer; services one after the other, in Buffer.
 -- Assumes nothing.
-use Rattle.std.specs.Prelude.{◌≡◌, ℕ, ◌+◌, ◌<◌, ◌≤◌, Bool, true, false, ◌||◌, ◌==◌, nat_le, refl}
-use Rattle.std.proofs.Common.{◌∙◌, sym, arith, leb-true, leb-false, le-leb, eqb-true, ne_eqb}
-use Rattle.std.proofs.Math.Bool.{or-true, or-false}
+use Rattle.std.specs.Prelude.{◌≡◌, ℕ, ◌+◌, ◌<◌, ◌≤◌, Bool, true, false, ◌==◌, nat_le, refl}
+use Rattle.std.proofs.Common.{arith, leb-true, leb-false, le-leb, eqb-true, ne_eqb}
 use Rattle.std.proofs.lemmas.Bool.{lt-leb, eqb-false}
 use Rattle.words.specs.Pointer.{step_ptr, at_end}
 

@@ -1,5 +1,4 @@
 -- `calls::call::asking` meets its contract, by what its parts ensure.
-use borrow.Author.Rules.{rules}
 use Rattle.calls.proofs.call.asking.Goals as goal
 
 pub returns : goal.returns

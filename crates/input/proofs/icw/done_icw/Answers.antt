@@ -1,5 +1,4 @@
 -- `input::icw::done_icw` meets its contract: the code is the definition.
-use borrow.Author.Rules.{rules}
 use Rattle.input.specs.Input.{done_icw}
 use Rattle.input.proofs.icw.done_icw.Goals as goal
 

@@ -1,6 +1,5 @@
 -- `input::icw::error_code` meets its contract: the marks in the definition's order.
 use native.Mathlib.Omega.{arith}
-use borrow.Author.Rules.{rules}
 use Rattle.input.specs.Input.{error_code}
 use Rattle.ground.specs.laws.Tests.{tests}
 use Rattle.input.proofs.icw.error_code.Goals as goal

@@ -1,5 +1,4 @@
 -- `input::icw::is_ascii` meets its contract: the code is the definition.
-use borrow.Author.Rules.{rules}
 use Rattle.input.specs.Input.{ascii}
 use Rattle.input.proofs.icw.is_ascii.Goals as goal
 

@@ -1,5 +1,4 @@
 -- `input::icw::replaced_icw` meets its contract: the code is the definition.
-use borrow.Author.Rules.{rules}
 use Rattle.input.specs.Input.{replaced_icw}
 use Rattle.input.proofs.icw.replaced_icw.Goals as goal
 

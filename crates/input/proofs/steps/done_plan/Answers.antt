@@ -1,5 +1,4 @@
 -- `input::steps::done_plan` meets its contract: by what `done_icw` ensures.
-use borrow.Author.Rules.{rules}
 use Rattle.input.specs.Input.{done_plan}
 use Rattle.input.proofs.steps.done_plan.Goals as goal
 

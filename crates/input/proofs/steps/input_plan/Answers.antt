@@ -1,5 +1,4 @@
 -- `input::steps::input_plan` meets its contract: the six steps in order, the tests on the way to each.
-use borrow.Author.Rules.{rules}
 use Rattle.input.specs.Input.{input_plan}
 use Rattle.ground.specs.laws.Tests.{tests}
 use Rattle.input.proofs.steps.input_plan.Goals as goal

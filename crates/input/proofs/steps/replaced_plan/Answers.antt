@@ -1,5 +1,4 @@
 -- `input::steps::replaced_plan` meets its contract: by what `replaced_icw` ensures.
-use borrow.Author.Rules.{rules}
 use Rattle.input.specs.Input.{replaced_plan}
 use Rattle.input.proofs.steps.replaced_plan.Goals as goal
 

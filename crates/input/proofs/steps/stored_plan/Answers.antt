@@ -1,5 +1,4 @@
 -- `input::steps::stored_plan` meets its contract: the code is the definition.
-use borrow.Author.Rules.{rules}
 use Rattle.input.specs.Input.{stored_plan}
 use Rattle.input.proofs.steps.stored_plan.Goals as goal
 

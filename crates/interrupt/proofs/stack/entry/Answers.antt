@@ -1,5 +1,4 @@
 -- `interrupt::stack::entry` meets its contract, step by step.
-use borrow.Author.Rules.{rules}
 use Rattle.interrupt.specs.Stack.{entry}
 use Rattle.interrupt.proofs.stack.entry.Goals as goal
 

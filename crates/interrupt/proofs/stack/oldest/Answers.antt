@@ -1,5 +1,4 @@
 -- `interrupt::stack::oldest` meets its contract, case by case.
-use borrow.Author.Rules.{rules}
 use borrow.Author.Tests.{eq-eqb, ne_eqb}
 use Rattle.ground.specs.Choose.{pick}
 use Rattle.interrupt.specs.Stack.{oldest}

@@ -1,6 +1,5 @@
 -- `interrupt::stack::pop` meets its contract, by what is left.
 use mathlib.Core.Path.{refl}
-use borrow.Author.Rules.{rules}
 use Rattle.interrupt.specs.Stack.{popped}
 use Rattle.interrupt.proofs.stack.pop.Goals as goal
 

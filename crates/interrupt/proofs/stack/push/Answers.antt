@@ -1,5 +1,4 @@
 -- `interrupt::stack::push` meets its contract, case by case.
-use borrow.Author.Rules.{rules}
 use borrow.Author.Tests.{lt-ltb, le-ltb}
 use Rattle.ground.specs.Choose.{pick}
 use Rattle.interrupt.specs.Stack.{pushed}

@@ -1,6 +1,5 @@
 -- `interrupt::stack::remove` meets its contract, case by case.
 use mathlib.Core.Path.{refl}
-use borrow.Author.Rules.{rules}
 use borrow.Author.Tests.{eq-eqb, ne_eqb}
 use Rattle.ground.specs.Choose.{pick}
 use Rattle.interrupt.specs.Stack.{removed}

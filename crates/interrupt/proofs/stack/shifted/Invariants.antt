@@ -1,11 +1,8 @@
 -- `interrupt::stack::shifted` meets its contract. The loop's invariant: the places passed have the next one's word.
 use mathlib.Core.Path.{◌≡◌}
 use Prim.Native.Nat.{◌≤◌, ◌-◌}
-use native.Mathlib.Numerals.{add-one}
-use native.Mathlib.Omega.{arith}
 use lib.ListN.{length}
-use borrow.Author.Rules.{rules}
-use Rattle.ground.specs.laws.Arrays.{tab_to, tab_none, tab_one, next, shift_last}
+use Rattle.ground.specs.laws.Arrays.{tab_to, next}
 use Rattle.interrupt.proofs.stack.shifted.Given as goal
 
 abbrev pub invariant-loop-i : goal.invariant-loop-i

@@ -1,5 +1,4 @@
 -- `interrupt::stack::top` meets its contract, step by step.
-use borrow.Author.Rules.{rules}
 use Rattle.interrupt.specs.Stack.{top}
 use Rattle.interrupt.proofs.stack.top.Goals as goal
 

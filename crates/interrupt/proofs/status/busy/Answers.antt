@@ -1,5 +1,4 @@
 -- `interrupt::status::busy` meets its contract, test by test.
-use borrow.Author.Rules.{rules}
 use Rattle.interrupt.specs.Status.{busy}
 use Rattle.interrupt.proofs.status.busy.Goals as goal
 

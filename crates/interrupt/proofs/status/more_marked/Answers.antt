@@ -1,5 +1,4 @@
 -- `interrupt::status::more_marked` meets its contract, case by case.
-use borrow.Author.Rules.{rules}
 use Rattle.ground.specs.Choose.{pick}
 use Rattle.interrupt.specs.Status.{more_marked}
 use Rattle.interrupt.proofs.status.more_marked.Goals as goal

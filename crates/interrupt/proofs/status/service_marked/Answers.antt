@@ -1,5 +1,4 @@
 -- `interrupt::status::service_marked` meets its contract, case by case.
-use borrow.Author.Rules.{rules}
 use Rattle.interrupt.specs.Status.{service_marked}
 use Rattle.interrupt.proofs.status.service_marked.Goals as goal
 

@@ -1,5 +1,4 @@
 -- `interrupt::status::status_after` meets its contract, step by step.
-use borrow.Author.Rules.{rules}
 use Rattle.interrupt.specs.Status.{status_after}
 use Rattle.interrupt.proofs.status.status_after.Goals as goal
 

@@ -1,5 +1,4 @@
 -- `output::modes::auto_plan` meets its contract: the code is the definition.
-use borrow.Author.Rules.{rules}
 use Rattle.output.specs.Output.{auto_plan}
 use Rattle.output.proofs.modes.auto_plan.Goals as goal
 

@@ -1,5 +1,4 @@
 -- `output::modes::control_plan` meets its contract: the code is the definition.
-use borrow.Author.Rules.{rules}
 use Rattle.output.specs.Output.{control_plan}
 use Rattle.output.proofs.modes.control_plan.Goals as goal
 

@@ -1,5 +1,4 @@
 -- `output::modes::output_plan` meets its contract: OUTDONE and the four modes in order, the tests on the way to each.
-use borrow.Author.Rules.{rules}
 use Rattle.output.specs.Output.{output_plan}
 use Rattle.ground.specs.laws.Tests.{cases}
 use Rattle.output.proofs.modes.output_plan.Goals as goal

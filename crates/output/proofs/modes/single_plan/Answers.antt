@@ -1,5 +1,4 @@
 -- `output::modes::single_plan` meets its contract: the code is the definition.
-use borrow.Author.Rules.{rules}
 use Rattle.output.specs.Output.{single_plan}
 use Rattle.output.proofs.modes.single_plan.Goals as goal
 

@@ -1,5 +1,4 @@
 -- `output::ocw::becomes_changed` meets its contract: the code is the definition.
-use borrow.Author.Rules.{rules}
 use Rattle.output.specs.Output.{becomes_changed}
 use Rattle.output.proofs.ocw.becomes_changed.Goals as goal
 

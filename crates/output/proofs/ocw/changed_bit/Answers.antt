@@ -1,6 +1,5 @@
 -- `output::ocw::changed_bit` meets its contract: the line changed, or the bit is kept.
 use native.Mathlib.Omega.{arith}
-use borrow.Author.Rules.{rules}
 use Rattle.ground.specs.laws.Tests.{cases}
 use Rattle.output.proofs.ocw.changed_bit.Goals as goal
 

@@ -1,5 +1,4 @@
 -- `output::ocw::differs` meets its contract: the code is the definition.
-use borrow.Author.Rules.{rules}
 use Rattle.output.specs.Output.{differs}
 use Rattle.output.proofs.ocw.differs.Goals as goal
 

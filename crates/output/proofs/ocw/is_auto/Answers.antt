@@ -1,5 +1,4 @@
 -- `output::ocw::is_auto` meets its contract: the code is the definition.
-use borrow.Author.Rules.{rules}
 use Rattle.output.specs.Output.{is_auto}
 use Rattle.output.proofs.ocw.is_auto.Goals as goal
 

@@ -1,5 +1,4 @@
 -- `output::ocw::is_done` meets its contract: by what its parts ensure.
-use borrow.Author.Rules.{rules}
 use Rattle.output.proofs.ocw.is_done.Goals as goal
 
 pub returns : goal.returns

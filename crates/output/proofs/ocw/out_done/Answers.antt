@@ -1,5 +1,4 @@
 -- `output::ocw::out_done` meets its contract: the code is the definition.
-use borrow.Author.Rules.{rules}
 use Rattle.output.specs.Output.{out_done}
 use Rattle.output.proofs.ocw.out_done.Goals as goal
 

@@ -1,5 +1,4 @@
 -- `output::ocw::status_bits` meets its contract: the code is the definition.
-use borrow.Author.Rules.{rules}
 use Rattle.output.specs.Output.{status_bits}
 use Rattle.output.proofs.ocw.status_bits.Goals as goal
 

@@ -1,5 +1,4 @@
 -- `output::ocw::written_ocw` meets its contract: OUTDONE set as read, or clear.
-use borrow.Author.Rules.{rules}
 use Rattle.ground.specs.Choose.{pick}
 use Rattle.output.specs.Output.{written_ocw}
 use Rattle.ground.specs.laws.Tests.{cases}

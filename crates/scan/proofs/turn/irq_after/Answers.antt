@@ -1,5 +1,4 @@
 -- `scan::turn::irq_after` meets its contract, case by case.
-use borrow.Author.Rules.{rules}
 use Rattle.ground.specs.Choose.{pick}
 use Rattle.scan.specs.Turn.{irq_after}
 use Rattle.scan.proofs.turn.irq_after.Goals as goal

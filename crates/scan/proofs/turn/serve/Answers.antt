@@ -1,5 +1,4 @@
 -- `scan::turn::serve` meets its contract, by the service of each kind.
-use borrow.Author.Rules.{rules}
 use Rattle.scan.specs.Turn.{service}
 use Rattle.scan.proofs.turn.serve.Goals as goal
 

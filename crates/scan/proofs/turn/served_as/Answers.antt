@@ -1,6 +1,5 @@
 -- `scan::turn::served_as` meets its contract, by what its parts ensure.
 use mathlib.Core.Path.{refl}
-use borrow.Author.Rules.{rules}
 use Rattle.scan.proofs.turn.served_as.Goals as goal
 
 pub returns : goal.returns

@@ -1,6 +1,5 @@
 -- `scan::turn::served_turn` meets its contract: the service, and what it made.
 use mathlib.Core.Path.{ap}
-use borrow.Author.Rules.{rules}
 use Rattle.unit.specs.Reply.{Serviced}
 use Rattle.scan.specs.Turn.{served_turn}
 use Rattle.scan.proofs.turn.served_turn.Goals as goal

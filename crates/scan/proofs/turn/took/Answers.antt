@@ -1,5 +1,4 @@
 -- `scan::turn::took` meets its contract, case by case.
-use borrow.Author.Rules.{rules}
 use Rattle.scan.specs.Turn.{took}
 use Rattle.scan.proofs.turn.took.Goals as goal
 

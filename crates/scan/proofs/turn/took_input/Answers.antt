@@ -1,5 +1,4 @@
 -- `scan::turn::took_input` meets its contract, by what its parts ensure.
-use borrow.Author.Rules.{rules}
 use Rattle.scan.proofs.turn.took_input.Goals as goal
 
 pub returns : goal.returns

@@ -1,5 +1,4 @@
 -- `scan::turn::turn` meets its contract, test by test.
-use borrow.Author.Rules.{rules}
 use Rattle.ground.specs.Choose.{pick}
 use Rattle.scan.specs.Turn.{idle_turn, turn}
 use Rattle.scan.proofs.turn.turn.Goals as goal

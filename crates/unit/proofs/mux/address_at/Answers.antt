@@ -3,7 +3,6 @@ use mathlib.Core.Path.{refl}
 use native.Mathlib.Nat.{div-le_self, mod-lt}
 use native.Mathlib.Omega.{arith}
 use lib.Dec.{lit<}
-use borrow.Author.Rules.{rules}
 use Rattle.unit.specs.Record.{address_at}
 use Rattle.unit.specs.laws.Sound.{block_bounds}
 use Rattle.unit.proofs.mux.address_at.Goals as goal

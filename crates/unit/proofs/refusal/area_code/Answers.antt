@@ -1,5 +1,4 @@
 -- `unit::refusal::area_code` meets its contract: its one row.
-use borrow.Author.Rules.{rules}
 use Rattle.ground.specs.Choose.{first_of}
 use Rattle.ground.specs.laws.Tests.{cases}
 use Rattle.unit.specs.Refusals.{area_rows}

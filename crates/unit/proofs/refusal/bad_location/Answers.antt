@@ -1,6 +1,5 @@
 -- `unit::refusal::bad_location` meets its contract, kind by kind.
 use mathlib.Core.Path.{refl}
-use borrow.Author.Rules.{rules}
 use Rattle.unit.specs.Refusals.{bad_location}
 use Rattle.unit.proofs.refusal.bad_location.Goals as goal
 

@@ -1,7 +1,6 @@
 -- `unit::refusal::base_code` meets its contract, row by row; what the last test says is written out, so that a wrong one is named.
 use mathlib.Core.Path.{◌≡◌, sym, ◌∙◌}
 use mathlib.Core.Bool.{true, false}
-use borrow.Author.Rules.{rules}
 use Rattle.ground.specs.Choose.{first_of}
 use Rattle.ground.specs.laws.Tests.{cases}
 use Rattle.unit.specs.Refusals.{bad_location, base_rows}

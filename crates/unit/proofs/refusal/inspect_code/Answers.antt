@@ -1,6 +1,5 @@
 -- `unit::refusal::inspect_code` meets its contract: the record's number, then row 7.
 use borrow.Author.Tests.{eq-eqb, ne_eqb}
-use borrow.Author.Rules.{rules}
 use Rattle.ground.specs.Choose.{pick}
 use Rattle.unit.specs.laws.Refusals.{inspection_refusal}
 use Rattle.unit.proofs.refusal.inspect_code.Goals as goal

@@ -1,6 +1,5 @@
 -- `unit::refusal::port_code` meets its contract: rows 6 and 8.
 use borrow.Author.Tests.{le-leb, lt-leb}
-use borrow.Author.Rules.{rules}
 use Rattle.ground.specs.Choose.{pick, asked, first_of}
 use Rattle.unit.specs.Refusals.{refusal, table_of, rows_of, call_rows}
 use Rattle.unit.proofs.refusal.port_code.Goals as goal

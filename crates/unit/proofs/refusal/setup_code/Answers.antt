@@ -1,6 +1,5 @@
 -- `unit::refusal::setup_code` meets its contract: the first part whose number is not 0.
 use mathlib.Core.Path.{sym, ◌∙◌}
-use borrow.Author.Rules.{rules}
 use Rattle.unit.specs.laws.Refusals.{by_size, by_base, by_area}
 use Rattle.unit.specs.laws.Sound.{size_fits, base_fits}
 use Rattle.unit.proofs.refusal.setup_code.Goals as goal

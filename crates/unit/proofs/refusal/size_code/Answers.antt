@@ -1,5 +1,4 @@
 -- `unit::refusal::size_code` meets its contract, row by row.
-use borrow.Author.Rules.{rules}
 use Rattle.ground.specs.Choose.{first_of}
 use Rattle.ground.specs.laws.Tests.{cases}
 use Rattle.unit.specs.Refusals.{size_rows}

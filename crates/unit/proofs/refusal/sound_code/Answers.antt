@@ -1,5 +1,4 @@
 -- `unit::refusal::sound_code` meets its contract: row 6 alone.
-use borrow.Author.Rules.{rules}
 use Rattle.ground.specs.Choose.{pick, asked, first_of}
 use Rattle.unit.specs.Refusals.{refusal, table_of, rows_of, call_rows}
 use Rattle.unit.proofs.refusal.sound_code.Goals as goal

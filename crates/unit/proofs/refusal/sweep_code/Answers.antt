@@ -1,6 +1,5 @@
 -- `unit::refusal::sweep_code` meets its contract: the inspections' number, then rows 9 and 10.
 use borrow.Author.Tests.{eq-eqb, ne_eqb, lt-ltb, le-ltb}
-use borrow.Author.Rules.{rules}
 use Rattle.ground.specs.Choose.{pick}
 use Rattle.unit.specs.laws.Refusals.{sweep_refusal}
 use Rattle.unit.proofs.refusal.sweep_code.Goals as goal

@@ -1,7 +1,6 @@
 -- `unit::refusal::unsound` meets its contract, part by part.
 use mathlib.Core.Path.{refl, sym, ◌∙◌}
 use borrow.Author.Tests.{le-leb, lt-leb}
-use borrow.Author.Rules.{rules}
 use Rattle.unit.proofs.laws.Refusals.{setting_unsound, setting_passed}
 use Rattle.unit.proofs.refusal.unsound.Goals as goal
 

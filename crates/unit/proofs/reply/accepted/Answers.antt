@@ -1,5 +1,4 @@
 -- `unit::reply::accepted` meets its contract, by what its parts ensure.
-use borrow.Author.Rules.{rules}
 use Rattle.unit.proofs.reply.accepted.Goals as goal
 
 pub returns : goal.returns

@@ -1,5 +1,4 @@
 -- `unit::reply::refused` meets its contract, by what its parts ensure.
-use borrow.Author.Rules.{rules}
 use Rattle.unit.proofs.reply.refused.Goals as goal
 
 pub returns : goal.returns

@@ -1,5 +1,4 @@
 -- `unit::setup::fresh` meets its contract, by what its parts ensure.
-use borrow.Author.Rules.{rules}
 use Rattle.unit.proofs.setup.fresh.Goals as goal
 
 pub returns : goal.returns

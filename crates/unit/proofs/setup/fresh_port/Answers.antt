@@ -1,5 +1,4 @@
 -- `unit::setup::fresh_port` meets its contract, by what its parts ensure.
-use borrow.Author.Rules.{rules}
 use Rattle.unit.proofs.setup.fresh_port.Goals as goal
 
 pub returns : goal.returns

@@ -1,5 +1,4 @@
 -- `unit::setup::no_mux` meets its contract, by what its parts ensure.
-use borrow.Author.Rules.{rules}
 use Rattle.unit.proofs.setup.no_mux.Goals as goal
 
 pub returns : goal.returns

@@ -1,6 +1,5 @@
 -- `unit::setup::setup` meets its contract: the number first, and then the record.
 use borrow.Author.Tests.{eq-eqb, ne_eqb}
-use borrow.Author.Rules.{rules}
 use Rattle.ground.specs.Choose.{pick}
 use Rattle.unit.specs.Reply.{guarded}
 use Rattle.unit.specs.Setup.{setup}

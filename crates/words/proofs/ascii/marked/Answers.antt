@@ -1,6 +1,5 @@
 -- `words::ascii::marked` meets its contract, case by case.
 use Rattle.ground.specs.Choose.{pick}
-use Rattle.std.proofs.Common.{rules}
 use Rattle.words.proofs.ascii.marked.Goals as goal
 
 pub returns-then-seven : goal.returns-then-seven

@@ -1,6 +1,5 @@
 -- `words::ascii::stored_byte` meets its contract: the stored byte is marked.
 use Rattle.words.specs.Codes.{stored_byte}
-use Rattle.std.proofs.Common.{rules}
 use Rattle.words.proofs.ascii.stored_byte.Goals as goal
 
 pub returns : goal.returns

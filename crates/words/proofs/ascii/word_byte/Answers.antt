@@ -1,6 +1,5 @@
 -- `words::ascii::word_byte` meets its contract: ICW's byte is marked.
 use Rattle.words.specs.Codes.{word_byte}
-use Rattle.std.proofs.Common.{rules}
 use Rattle.words.proofs.ascii.word_byte.Goals as goal
 
 pub returns : goal.returns

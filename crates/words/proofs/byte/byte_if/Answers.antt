@@ -1,5 +1,4 @@
 -- `words::byte::byte_if` meets its contract, case by case.
-use Rattle.std.proofs.Common.{rules}
 use Rattle.ground.specs.Choose.{pick}
 use Rattle.words.specs.Byte.{byte_if}
 use Rattle.words.proofs.byte.byte_if.Goals as goal

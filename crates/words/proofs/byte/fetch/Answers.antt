@@ -1,5 +1,5 @@
 -- `words::byte::fetch` meets its contract: the half that the pointer names is a field of 256 values.
-use Rattle.std.proofs.Common.{ap, arith, rules}
+use Rattle.std.proofs.Common.{ap, arith}
 use mathlib.Core.Path.{subst⁻¹}
 use Rattle.words.specs.Byte.{byte_at}
 use Rattle.words.specs.laws.Byte.{half_whole, half_span}

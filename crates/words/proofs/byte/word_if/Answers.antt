@@ -1,5 +1,4 @@
 -- `words::byte::word_if` meets its contract, case by case.
-use Rattle.std.proofs.Common.{rules}
 use Rattle.ground.specs.Choose.{pick}
 use Rattle.words.specs.Byte.{word_if}
 use Rattle.words.proofs.byte.word_if.Goals as goal

@@ -1,5 +1,5 @@
 -- `words::field::get` meets its contract: the code is the definition, and a remainder is below its divisor.
-use Rattle.std.proofs.Common.{refl, mod-lt, rules}
+use Rattle.std.proofs.Common.{refl, mod-lt}
 use Rattle.words.specs.Field.{get}
 use Rattle.words.proofs.field.get.Goals as goal
 

@@ -1,5 +1,5 @@
 -- `words::field::put` meets its contract: the code is the definition, and what it writes is a word.
-use Rattle.std.proofs.Common.{◌<◌, refl, arith, rules}
+use Rattle.std.proofs.Common.{refl, arith}
 use Rattle.words.specs.Field.{get, put}
 use Rattle.words.specs.laws.Field.{part_le, put_fits}
 use Rattle.words.proofs.field.put.Goals as goal

@@ -1,6 +1,6 @@
 -- `words::length::cut` meets its contract: a remainder is at most the character.
 use mathlib.Core.Path.{subst⁻¹}
-use Rattle.std.proofs.Common.{ℕ, ◌<◌, arith, rules}
+use Rattle.std.proofs.Common.{ℕ, ◌<◌, arith}
 use native.Mathlib.Nat.{mod-le}
 use Rattle.words.specs.Length.{cut}
 use Rattle.words.specs.laws.Length.{span_positive}

@@ -1,5 +1,5 @@
 -- `words::length::span_of` meets its contract: each entry of the table is the power of two for its length.
-use Rattle.std.proofs.Common.{◌≡◌, ℕ, zero, suc, ◌+◌, ◌^◌, ◌<◌, [], ◌∷◌, get_or, refl, ap, ◌∙◌, arith, rules}
+use Rattle.std.proofs.Common.{◌≡◌, ℕ, zero, suc, ◌+◌, ◌^◌, ◌<◌, [], ◌∷◌, get_or, refl, ap, ◌∙◌, arith}
 use Rattle.words.specs.Length.{span_of, length_of}
 use Rattle.words.proofs.length.span_of.Goals as goal
 

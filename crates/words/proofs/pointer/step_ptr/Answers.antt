@@ -1,5 +1,4 @@
 -- `words::pointer::step_ptr` meets its contract: it is the sum that is ensured.
-use Rattle.std.proofs.Common.{rules}
 use Rattle.words.proofs.pointer.step_ptr.Goals as goal
 
 pub returns : goal.returns

@@ -1,5 +1,5 @@
 -- `words::special::set_1974` meets its contract. The loop's invariant: the codes passed have the rule's word.
-use Rattle.std.proofs.Common.{◌≡◌, ℕ, ◌-◌, ◌≤◌, false, length, replicate, ap, ◌∙◌, add-one, arith, rules}
+use Rattle.std.proofs.Common.{◌≡◌, ℕ, false, replicate, ap, ◌∙◌, add-one, arith, rules}
 use Rattle.ground.specs.laws.Arrays.{tab_to, tab_none, tab_one, tab_all}
 use Rattle.words.specs.Special.{is_special, set1974}
 use Rattle.words.proofs.special.set_1974.Goals as goal

@@ -1,7 +1,7 @@
 -- `words::special::set_1974` meets its contract. The loop's invariant: the codes passed have the rule's word.
-use Rattle.std.proofs.Common.{◌≡◌, ℕ, ◌-◌, ◌≤◌, false, length, replicate, ap, ◌∙◌, add-one, arith, rules}
-use Rattle.ground.specs.laws.Arrays.{tab_to, tab_none, tab_one, tab_all}
-use Rattle.words.specs.Special.{is_special, set1974}
+use Rattle.std.proofs.Common.{◌≡◌, ◌-◌, ◌≤◌, length}
+use Rattle.ground.specs.laws.Arrays.{tab_to}
+use Rattle.words.specs.Special.{is_special}
 use Rattle.words.proofs.special.set_1974.Given as goal
 
 abbrev pub invariant-loop-c : goal.invariant-loop-c

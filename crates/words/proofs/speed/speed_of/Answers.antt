@@ -1,5 +1,4 @@
 -- `words::speed::speed_of` meets its contract: the code's table is the definition's.
-use Rattle.std.proofs.Common.{rules}
 use Rattle.words.specs.Speed.{speed_of}
 use Rattle.words.proofs.speed.speed_of.Goals as goal
 
