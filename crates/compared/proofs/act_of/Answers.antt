@@ -2,7 +2,6 @@
 use borrow.Author.Tests.{lt-ltb, le-ltb}
 use Rattle.ground.specs.Choose.{pick}
 use Rattle.compared.specs.Orders.{act_of}
-use borrow.Author.Rules.{rules}
 use Rattle.compared.proofs.act_of.Goals as goal
 
 pub returns-then-n-lt5 : goal.returns-then-n-lt5

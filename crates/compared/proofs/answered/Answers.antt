@@ -1,5 +1,4 @@
 -- `compared::answered` meets its contract: its calls, one after the other.
-use borrow.Author.Rules.{rules}
 use Rattle.compared.proofs.answered.Goals as goal
 
 pub returns : goal.returns

@@ -1,5 +1,4 @@
 -- `compared::arrival` meets its contract by those of its calls.
-use borrow.Author.Rules.{rules}
 use Rattle.compared.proofs.arrival.Goals as goal
 
 pub returns : goal.returns

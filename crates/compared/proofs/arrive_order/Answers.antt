@@ -4,7 +4,6 @@ use borrow.Author.Tests.{eq-eqb, ne_eqb}
 use Rattle.ground.specs.Choose.{pick}
 use Rattle.unit.specs.Reply.{Outcome}
 use Rattle.compared.specs.Session.{arrived_after, arrive_order}
-use borrow.Author.Rules.{rules}
 use Rattle.compared.proofs.arrive_order.Goals as goal
 
 pub returns-then-r-ne0 : goal.returns-then-r-ne0

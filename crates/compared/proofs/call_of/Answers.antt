@@ -2,7 +2,6 @@
 use borrow.Author.Tests.{eq-eqb, ne_eqb, lt-ltb, le-ltb}
 use Rattle.ground.specs.Choose.{pick}
 use Rattle.compared.specs.Orders.{call_of}
-use borrow.Author.Rules.{rules}
 use Rattle.compared.proofs.call_of.Goals as goal
 
 pub returns-then-n-eq1 : goal.returns-then-n-eq1

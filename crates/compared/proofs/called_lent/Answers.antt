@@ -3,7 +3,6 @@ use native.Mathlib.Omega.{arith}
 use lib.ListN.{length-take}
 use Rattle.compared.specs.Desk.{kept}
 use Rattle.compared.specs.laws.Lent.{lent_back_lem}
-use borrow.Author.Rules.{rules}
 use Rattle.compared.proofs.called_lent.Goals as goal
 
 pub slice_bounds-call_by_value-end-2 : goal.slice_bounds-call_by_value-end-2

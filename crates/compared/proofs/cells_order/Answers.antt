@@ -2,7 +2,6 @@
 use borrow.Author.Tests.{eq-eqb, ne_eqb}
 use Rattle.ground.specs.Choose.{pick}
 use Rattle.compared.specs.Session.{cells_order}
-use borrow.Author.Rules.{rules}
 use Rattle.compared.proofs.cells_order.Goals as goal
 
 pub returns-then-n-eq19 : goal.returns-then-n-eq19

@@ -2,7 +2,6 @@
 use borrow.Author.Tests.{eq-eqb, ne_eqb}
 use Rattle.ground.specs.Choose.{pick}
 use Rattle.compared.specs.Session.{desk_order}
-use borrow.Author.Rules.{rules}
 use Rattle.compared.proofs.desk_order.Goals as goal
 
 pub returns-then-n-eq22 : goal.returns-then-n-eq22

@@ -1,8 +1,5 @@
 -- `compared::drive` meets its contract. The loop's invariant: some text was taken up to here.
-use mathlib.Core.Path.{◌≡◌}
-use lib.ListN.{length}
-use Rattle.compared.specs.Desk.{kept, new_desk}
-use Rattle.compared.specs.laws.Session.{Reached, reached_none, reached_on, reached_driven}
+use Rattle.compared.specs.laws.Session.{reached_none, reached_on, reached_driven}
 use borrow.Author.Rules.{rules}
 use Rattle.compared.proofs.drive.Goals as goal
 

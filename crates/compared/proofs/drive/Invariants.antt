@@ -2,8 +2,7 @@
 use mathlib.Core.Path.{◌≡◌}
 use lib.ListN.{length}
 use Rattle.compared.specs.Desk.{kept, new_desk}
-use Rattle.compared.specs.laws.Session.{Reached, reached_none, reached_on, reached_driven}
-use borrow.Author.Rules.{rules}
+use Rattle.compared.specs.laws.Session.{Reached}
 use Rattle.compared.proofs.drive.Given as goal
 
 abbrev pub invariant-loop-turns : goal.invariant-loop-turns

@@ -2,7 +2,6 @@
 use borrow.Author.Tests.{eq-eqb, ne_eqb}
 use Rattle.ground.specs.Choose.{pick}
 use Rattle.compared.specs.Session.{end_order}
-use borrow.Author.Rules.{rules}
 use Rattle.compared.proofs.end_order.Goals as goal
 
 pub returns-then-op-eq31 : goal.returns-then-op-eq31

@@ -1,5 +1,4 @@
 -- `compared::frame_in` meets its contract by that of its call.
-use borrow.Author.Rules.{rules}
 use Rattle.compared.specs.Session.{frame_in}
 use Rattle.compared.proofs.frame_in.Goals as goal
 

@@ -1,5 +1,4 @@
 -- `compared::frame_line` meets its contract by those of its calls.
-use borrow.Author.Rules.{rules}
 use Rattle.compared.proofs.frame_line.Goals as goal
 
 pub returns : goal.returns

@@ -1,6 +1,5 @@
 -- `compared::kind_order` meets its contract, in each arm.
 use borrow.Author.Tests.{eq-eqb, ne_eqb}
-use borrow.Author.Rules.{rules}
 use Rattle.ground.specs.Choose.{pick}
 use Rattle.compared.specs.Session.{kind_order}
 use Rattle.compared.proofs.kind_order.Goals as goal

@@ -1,7 +1,6 @@
 -- `compared::late_order` meets its contract, in each arm.
 use Rattle.ground.specs.Choose.{pick}
 use Rattle.compared.specs.Session.{late_order}
-use borrow.Author.Rules.{rules}
 use Rattle.compared.proofs.late_order.Goals as goal
 
 pub returns-then-n : goal.returns-then-n

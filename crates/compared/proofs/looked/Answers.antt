@@ -2,7 +2,6 @@
 use borrow.Author.Tests.{eq-eqb, ne_eqb}
 use Rattle.ground.specs.Choose.{pick}
 use Rattle.compared.specs.Said.{looked_of}
-use borrow.Author.Rules.{rules}
 use Rattle.compared.proofs.looked.Goals as goal
 
 pub returns-then-n-eq13 : goal.returns-then-n-eq13

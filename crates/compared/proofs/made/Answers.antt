@@ -1,5 +1,4 @@
 -- `compared::made` meets its contract: the record of the setup.
-use borrow.Author.Rules.{rules}
 use Rattle.compared.proofs.made.Goals as goal
 
 pub returns : goal.returns

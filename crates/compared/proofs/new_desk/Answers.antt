@@ -1,5 +1,4 @@
 -- `compared::new_desk` meets its contract: a line of which nothing is read, the record of zeros, and the 1974 set.
-use borrow.Author.Rules.{rules}
 use Rattle.compared.proofs.new_desk.Goals as goal
 
 pub returns : goal.returns

@@ -2,7 +2,6 @@
 use native.Mathlib.Omega.{arith}
 use lib.ListN.{length-take}
 use Rattle.compared.specs.laws.Lent.{take_most}
-use borrow.Author.Rules.{rules}
 use Rattle.compared.proofs.of_lent.Goals as goal
 
 pub slice_bounds-of_words-end : goal.slice_bounds-of_words-end

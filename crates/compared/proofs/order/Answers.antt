@@ -2,7 +2,6 @@
 use borrow.Author.Tests.{eq-eqb, ne_eqb, lt-ltb, le-ltb}
 use Rattle.ground.specs.Choose.{pick}
 use Rattle.compared.specs.Session.{order_by}
-use borrow.Author.Rules.{rules}
 use Rattle.compared.proofs.order.Goals as goal
 
 pub returns-then-n-lt15 : goal.returns-then-n-lt15

@@ -1,6 +1,5 @@
 -- `compared::set_order` meets its contract, in each arm.
 use borrow.Author.Tests.{eq-eqb, ne_eqb}
-use borrow.Author.Rules.{rules}
 use Rattle.ground.specs.Choose.{pick}
 use Rattle.compared.specs.Session.{set_order}
 use Rattle.compared.proofs.set_order.Goals as goal

@@ -1,5 +1,4 @@
 -- `compared::setting_of` meets its contract by that of its call.
-use borrow.Author.Rules.{rules}
 use Rattle.compared.proofs.setting_of.Goals as goal
 
 pub returns : goal.returns

@@ -3,7 +3,6 @@ use borrow.Author.Tests.{ne_eqb}
 use Rattle.ground.specs.Choose.{pick}
 use lib.ListN.{get_or}
 use Rattle.compared.specs.Orders.{signal_of}
-use borrow.Author.Rules.{rules}
 use mathlib.Core.Path.{◌≡◌}
 use native.Mathlib.Omega.{arith}
 use Rattle.compared.proofs.signal_of.Goals as goal

@@ -1,5 +1,4 @@
 -- `compared::speed_line` meets its contract: its calls, one after the other.
-use borrow.Author.Rules.{rules}
 use Rattle.compared.proofs.speed_line.Goals as goal
 
 pub returns : goal.returns

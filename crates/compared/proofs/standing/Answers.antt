@@ -1,9 +1,7 @@
 -- `compared::standing` meets its contract, in each arm.
-use mathlib.Core.Logic.{⊎_elim}
 use borrow.Author.Tests.{eq-eqb, ne_eqb}
 use Rattle.ground.specs.Choose.{pick}
 use Rattle.compared.specs.Session.{standing}
-use borrow.Author.Rules.{rules}
 use Rattle.compared.proofs.standing.Goals as goal
 use Rattle.compared.proofs.standing.Goals.{else-n-eq1-via-then-n-eq1+else-n-eq1-2, else-n-eq1-via-else-n-eq1}
 

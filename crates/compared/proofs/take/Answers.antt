@@ -1,9 +1,8 @@
 -- `compared::take` meets its contract. The loop's invariant: what is left of the text, taken from here, leaves what the whole does.
 use mathlib.Core.Path.{◌≡◌, refl, sym, ◌∙◌}
-use mathlib.Core.List.{foldl}
-use Prim.Native.Nat.{◌≤◌, ◌<◌, ◌-◌}
+use Prim.Native.Nat.{◌<◌}
 use native.Mathlib.Omega.{arith}
-use lib.ListN.{length, drop}
+use lib.ListN.{length}
 use Rattle.driver.specs.laws.Folds.{fold_on, fold_end}
 use Rattle.compared.specs.Desk.{kept}
 use Rattle.compared.specs.Session.{take_byte}

@@ -1,13 +1,10 @@
 -- `compared::take` meets its contract. The loop's invariant: what is left of the text, taken from here, leaves what the whole does.
-use mathlib.Core.Path.{◌≡◌, refl, sym, ◌∙◌}
+use mathlib.Core.Path.{◌≡◌}
 use mathlib.Core.List.{foldl}
-use Prim.Native.Nat.{◌≤◌, ◌<◌, ◌-◌}
-use native.Mathlib.Omega.{arith}
+use Prim.Native.Nat.{◌≤◌, ◌-◌}
 use lib.ListN.{length, drop}
-use Rattle.driver.specs.laws.Folds.{fold_on, fold_end}
 use Rattle.compared.specs.Desk.{kept}
 use Rattle.compared.specs.Session.{take_byte}
-use borrow.Author.Rules.{rules}
 use Rattle.compared.proofs.take.Given as goal
 
 abbrev pub invariant-loop-i : goal.invariant-loop-i

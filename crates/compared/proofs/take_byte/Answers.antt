@@ -6,7 +6,6 @@ use Rattle.driver.specs.declared.read.Line.{Line}
 use Rattle.compared.specs.Desk.{kept, with_line}
 use Rattle.compared.specs.Session.{take_byte}
 use Rattle.compared.specs.laws.Session.{carried_out}
-use borrow.Author.Rules.{rules}
 use Rattle.compared.proofs.take_byte.Goals as goal
 
 pub returns-then-b-eq10 : goal.returns-then-b-eq10

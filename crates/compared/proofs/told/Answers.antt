@@ -3,7 +3,6 @@ use borrow.Author.Tests.{ne_eqb}
 use lib.ListN.{get_or}
 use Rattle.ground.specs.Choose.{pick}
 use Rattle.compared.specs.Said.{beside_of}
-use borrow.Author.Rules.{rules}
 use mathlib.Core.Path.{◌≡◌}
 use native.Mathlib.Omega.{arith}
 use Rattle.compared.proofs.told.Goals as goal

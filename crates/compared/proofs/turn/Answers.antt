@@ -4,7 +4,6 @@ use lib.ListN.{take}
 use Rattle.compared.specs.declared.Desk.{Desk}
 use Rattle.compared.specs.Desk.{kept}
 use Rattle.driver.specs.Text.{came, silent}
-use borrow.Author.Rules.{rules}
 use Rattle.compared.proofs.turn.Goals as goal
 
 pub returns-then-n-eq0 : goal.returns-then-n-eq0

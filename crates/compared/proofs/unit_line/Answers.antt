@@ -4,7 +4,6 @@ use Rattle.driver.specs.Printed.{nothing, and}
 use Rattle.driver.specs.Digest.{record_digest}
 use mathlib.Core.List.{◌∷◌, foldl-append}
 use Rattle.compared.specs.Said.{told_of, looked_of}
-use borrow.Author.Rules.{rules}
 use Rattle.compared.proofs.unit_line.Goals as goal
 
 pub returns : goal.returns

@@ -2,7 +2,6 @@
 use mathlib.Core.Path.{ap}
 use Rattle.unit.specs.Reply.{Outcome}
 use Rattle.compared.specs.Session.{unit_after, unit_order}
-use borrow.Author.Rules.{rules}
 use Rattle.compared.proofs.unit_order.Goals as goal
 
 pub returns : goal.returns

@@ -3,7 +3,6 @@ use mathlib.Core.Path.{ap}
 use Rattle.framing.specs.Write.{Wrote}
 use Rattle.compared.specs.Desk.{with_cells}
 use Rattle.compared.specs.Session.{write_order}
-use borrow.Author.Rules.{rules}
 use Rattle.compared.proofs.write_order.Goals as goal
 
 pub returns : goal.returns

@@ -1,6 +1,5 @@
 -- `picture::nothing` meets its contract.
 use mathlib.Core.Path.{refl}
-use borrow.Author.Rules.{rules}
 use Rattle.picture.proofs.nothing.Goals as goal
 
 pub returns : goal.returns

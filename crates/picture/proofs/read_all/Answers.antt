@@ -1,7 +1,5 @@
 -- `picture::read_all` meets its contract. The loop's invariant: the line is what some text leaves.
 use mathlib.Core.Path.{refl}
-use borrow.Author.Rules.{rules}
-use Rattle.driver.specs.Text.{Heard}
 use Rattle.driver.specs.laws.Heard.{heard_none, heard_on}
 use Rattle.picture.specs.declared.Reader.{Reader}
 use Rattle.picture.specs.Typing.{nothing, taken, read_on, shut}

@@ -1,9 +1,7 @@
 -- `picture::take` meets its contract. The loop's invariant: so many bytes of the text are taken.
 use Prim.Native.Nat.{◌-◌}
-use native.Mathlib.Omega.{arith}
 use lib.ListN.{length}
-use borrow.Author.Rules.{rules}
-use Rattle.driver.specs.laws.Folds.{Folding, folding_none, folding_on, folding_all}
+use Rattle.driver.specs.laws.Folds.{Folding}
 use Rattle.picture.specs.Typing.{taken}
 use Rattle.picture.proofs.take.Given as goal
 

@@ -1,7 +1,6 @@
 -- `picture::take_byte` meets its contract, in each arm.
 use mathlib.Core.Path.{refl}
 use borrow.Author.Tests.{eq-eqb, ne_eqb}
-use borrow.Author.Rules.{rules}
 use Rattle.ground.specs.Choose.{pick}
 use Rattle.picture.specs.Typing.{taken}
 use Rattle.picture.proofs.take_byte.Goals as goal

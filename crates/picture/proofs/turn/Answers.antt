@@ -1,7 +1,6 @@
 -- `picture::turn` meets its contract: there was no more to read, or the bytes that came were taken.
 use mathlib.Core.Path.{refl, ap}
 use lib.ListN.{take}
-use borrow.Author.Rules.{rules}
 use Rattle.driver.specs.Text.{came, silent}
 use Rattle.picture.specs.declared.Typing.{Typing}
 use Rattle.picture.proofs.turn.Goals as goal

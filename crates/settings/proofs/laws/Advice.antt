@@ -6,20 +6,18 @@
 -- Here, and not in specs/laws/Advice, is what rests on other laws of specs/: an edit of a definition counts as refused where nothing in specs/ rests on the
 -- law that it breaks.
 -- Assumes nothing.
-use Rattle.std.specs.Prelude.{◌≡◌, refl, Bool, true, false, List, ◌↔◌, ℕ, ◌+◌, ◌-◌, ◌*◌, ◌/◌, ◌%◌, ◌<◌, ◌≤◌, eqb, ltb}
-use Rattle.std.proofs.Common.{ap, ◌∙◌, div-add-mod', arith, ltb-true, ltb-false, ne_eqb, le-ltb}
-use Rattle.std.proofs.lemmas.Bool.{eqb-false}
+use Rattle.std.specs.Prelude.{◌≡◌, refl, Bool, true, false, ◌↔◌, ℕ, ◌+◌, ◌-◌, ◌*◌, ◌/◌, ◌%◌, ◌<◌, ◌≤◌, ltb}
+use Rattle.std.proofs.Common.{ap, ◌∙◌, div-add-mod', arith, ltb-true, ltb-false}
 use Rattle.ground.specs.Choose.{pick}
 use Rattle.interrupt.specs.declared.Kind.{Kind}
 use Rattle.interrupt.specs.declared.Kind.TheVariants.{Eds8, MightyMux}
 use Rattle.unit.specs.declared.mux.Setting.{Setting}
-use Rattle.unit.specs.Refusals.{MOST-PORTS, too_high, refusal, of_setup}
-use Rattle.unit.specs.Sound.{IsBlock, eight, sixteen, thirty_two, SizeFits, BaseFits, AreaFits}
+use Rattle.unit.specs.Refusals.{too_high, refusal, of_setup}
+use Rattle.unit.specs.Sound.{IsBlock, SizeFits, BaseFits, AreaFits}
 use Rattle.unit.specs.laws.Sound.{by_block}
 use Rattle.unit.proofs.laws.Sound.{setup_iff}
 use Rattle.unit.specs.laws.Location.{aligned_400}
-use Rattle.unit.specs.laws.Set.{choosing, refusal_unread}
-use Rattle.settings.specs.Advice.{block_mended, ports_mended, sizes_mended, in_memory, multiple_below, step_of, last_base, base_mended, with_base, lowered, advised}
+use Rattle.settings.specs.Advice.{sizes_mended, in_memory, multiple_below, step_of, last_base, base_mended, with_base, lowered, advised}
 use Rattle.settings.specs.laws.Advice.{block_kept, sized, ports_kept}
 
 -- ---- the sizes

@@ -7,20 +7,17 @@
 -- In proofs/laws/Advice, since they rest on these: step-some, advised_taken, advised_below, advised_last, advised_kept.
 -- Not here: what is advised, in specs/Advice.
 -- Assumes nothing.
-use Rattle.std.specs.Prelude.{◌≡◌, refl, Bool, true, false, List, ◌↔◌, ℕ, ◌+◌, ◌-◌, ◌*◌, ◌/◌, ◌%◌, ◌<◌, ◌≤◌, eqb, ltb}
-use Rattle.std.proofs.Common.{ap, ◌∙◌, div-add-mod', arith, ltb-true, ltb-false, ne_eqb, le-ltb}
+use Rattle.std.specs.Prelude.{◌≡◌, refl, Bool, true, false, List, ℕ, ◌+◌, ◌-◌, ◌*◌, ◌/◌, ◌<◌, ◌≤◌, eqb, ltb}
+use Rattle.std.proofs.Common.{arith, ltb-false, ne_eqb, le-ltb}
 use Rattle.std.proofs.lemmas.Bool.{eqb-false}
 use Rattle.ground.specs.Choose.{pick}
-use Rattle.interrupt.specs.declared.Kind.{Kind}
-use Rattle.interrupt.specs.declared.Kind.TheVariants.{Eds8, MightyMux}
+use Rattle.interrupt.specs.declared.Kind.TheVariants.{Eds8}
 use Rattle.unit.specs.declared.mux.Setting.{Setting}
-use Rattle.unit.specs.Refusals.{MOST-PORTS, too_high, refusal, of_setup}
-use Rattle.unit.specs.Sound.{IsBlock, eight, sixteen, thirty_two, SizeFits, BaseFits, AreaFits}
+use Rattle.unit.specs.Refusals.{MOST-PORTS, refusal, of_setup}
+use Rattle.unit.specs.Sound.{IsBlock, eight, sixteen, thirty_two, SizeFits}
 use Rattle.unit.specs.laws.Sound.{by_block}
-use Rattle.unit.proofs.laws.Sound.{setup_iff}
-use Rattle.unit.specs.laws.Location.{aligned_400}
 use Rattle.unit.specs.laws.Set.{choosing, refusal_unread}
-use Rattle.settings.specs.Advice.{block_mended, ports_mended, sizes_mended, in_memory, multiple_below, step_of, last_base, base_mended, with_base, lowered, advised}
+use Rattle.settings.specs.Advice.{block_mended, ports_mended, sizes_mended, in_memory, multiple_below, step_of, last_base, base_mended, with_base, advised}
 
 -- ---- the sizes
 

@@ -1,5 +1,4 @@
 -- `compared::frames::arrived_line` meets its contract: its calls, one after the other.
-use borrow.Author.Rules.{rules}
 use Rattle.compared.proofs.frames.arrived_line.Goals as goal
 
 pub returns : goal.returns

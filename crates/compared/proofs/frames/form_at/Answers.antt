@@ -1,5 +1,4 @@
 -- `compared::frames::form_at` meets its contract by those of its calls.
-use borrow.Author.Rules.{rules}
 use Rattle.compared.specs.Frames.{form_at}
 use Rattle.compared.proofs.frames.form_at.Goals as goal
 

@@ -1,5 +1,4 @@
 -- `compared::frames::frame_told` meets its contract: its calls, one after the other.
-use borrow.Author.Rules.{rules}
 use Rattle.compared.proofs.frames.frame_told.Goals as goal
 
 pub returns : goal.returns

@@ -2,7 +2,6 @@
 use mathlib.Core.Path.{◌∙◌, ap}
 use mathlib.Core.List.{List}
 use Prim.Native.Nat.{ℕ}
-use borrow.Author.Rules.{rules}
 use Rattle.framing.specs.Read.{Looked, read_frame}
 use Rattle.compared.specs.laws.Lent.{part_most}
 use Rattle.compared.proofs.frames.read_lent.Goals as goal

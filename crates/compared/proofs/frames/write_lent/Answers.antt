@@ -1,5 +1,4 @@
 -- `compared::frames::write_lent` meets its contract: no more cells are lent than there are.
-use borrow.Author.Rules.{rules}
 use Rattle.compared.specs.laws.Lent.{lent_put}
 use Rattle.compared.proofs.frames.write_lent.Goals as goal
 

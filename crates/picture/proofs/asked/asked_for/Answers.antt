@@ -2,7 +2,6 @@
 use mathlib.Core.Path.{◌≡◌, refl, sym, ◌∙◌}
 use mathlib.Core.Bool.{true, false}
 use native.Mathlib.Omega.{arith}
-use borrow.Author.Rules.{rules}
 use Rattle.ground.specs.Choose.{pick}
 use Rattle.picture.specs.Asked.{drawable, asked_for}
 use Rattle.picture.specs.laws.Asked.{drawable_parts}

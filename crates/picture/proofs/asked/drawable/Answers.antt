@@ -1,7 +1,6 @@
 -- `picture::asked::drawable` meets its contract, in each branch.
 use mathlib.Core.Path.{sym}
 use borrow.Author.Tests.{lt-ltb, le-ltb}
-use borrow.Author.Rules.{rules}
 use Rattle.ground.specs.laws.Rows.{pick_true, pick-false}
 use Rattle.picture.specs.Asked.{drawable}
 use Rattle.picture.proofs.asked.drawable.Goals as goal

@@ -1,9 +1,9 @@
 -- `picture::draw::drawn` meets its contract. The loop's invariant: the cells passed are drawn.
 use mathlib.Core.Path.{◌≡◌, ap, ◌∙◌}
-use Prim.Native.Nat.{ℕ, ◌≤◌, ◌-◌}
+use Prim.Native.Nat.{ℕ}
 use native.Mathlib.Numerals.{add-one}
 use native.Mathlib.Omega.{arith}
-use lib.ListN.{length, replicate}
+use lib.ListN.{replicate}
 use borrow.Author.Rules.{rules}
 use Rattle.ground.specs.laws.Arrays.{tab_to, tab_none, tab_one, tab_all}
 use Rattle.picture.specs.Draw.{drawn_at, drawn}

@@ -1,12 +1,9 @@
 -- `picture::draw::drawn` meets its contract. The loop's invariant: the cells passed are drawn.
-use mathlib.Core.Path.{◌≡◌, ap, ◌∙◌}
-use Prim.Native.Nat.{ℕ, ◌≤◌, ◌-◌}
-use native.Mathlib.Numerals.{add-one}
-use native.Mathlib.Omega.{arith}
-use lib.ListN.{length, replicate}
-use borrow.Author.Rules.{rules}
-use Rattle.ground.specs.laws.Arrays.{tab_to, tab_none, tab_one, tab_all}
-use Rattle.picture.specs.Draw.{drawn_at, drawn}
+use mathlib.Core.Path.{◌≡◌}
+use Prim.Native.Nat.{◌≤◌, ◌-◌}
+use lib.ListN.{length}
+use Rattle.ground.specs.laws.Arrays.{tab_to}
+use Rattle.picture.specs.Draw.{drawn_at}
 use Rattle.picture.proofs.draw.drawn.Given as goal
 
 abbrev pub invariant-loop-i : goal.invariant-loop-i

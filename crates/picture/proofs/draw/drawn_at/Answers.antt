@@ -1,6 +1,5 @@
 -- `picture::draw::drawn_at` meets its contract, row by row.
 use mathlib.Core.Path.{refl}
-use borrow.Author.Rules.{rules}
 use Rattle.picture.specs.Draw.{drawn_at}
 use Rattle.picture.proofs.draw.drawn_at.Goals as goal
 

@@ -1,7 +1,6 @@
 -- `picture::draw::letter` meets its contract, half by half.
 use mathlib.Core.Path.{sym, ◌∙◌}
 use borrow.Author.Tests.{eq-eqb, ne_eqb}
-use borrow.Author.Rules.{rules}
 use Rattle.ground.specs.laws.Rows.{pick_true, pick-false}
 use Rattle.picture.specs.Draw.{letter}
 use Rattle.picture.proofs.draw.letter.Goals as goal

@@ -3,7 +3,6 @@ use mathlib.Core.Path.{sym, ◌∙◌}
 use Prim.Native.Nat.{◌+◌, ◌<◌, ◌≤◌}
 use native.Mathlib.Omega.{arith}
 use borrow.Author.Tests.{eq-eqb, ne_eqb, lt-ltb, le-ltb}
-use borrow.Author.Rules.{rules}
 use Rattle.ground.specs.laws.Rows.{pick_true, pick-false}
 use Rattle.framing.specs.Form.{data_bits, first_stop}
 use Rattle.picture.specs.Draw.{letter_of}
