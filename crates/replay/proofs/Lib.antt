@@ -1,2 +1,2 @@
--- What follows from the laws of replay.
+-- Theorems that rest on the laws of specs/ (laws).
 pub mod laws

@@ -1,3 +1,2 @@
--- What follows from the laws of replay. Nothing here need be believed.
---   Calls   every call's event records that call
+-- What rests on the laws of specs/laws, in files of the same names.
 pub mod Calls
