@@ -1,30 +1,64 @@
 -- A buffer of automatic output ends (document 02, K2).
+--   raises, obp_after          the interrupt of a service, and OBP after it
+--   next_below, steps          a byte that raises no interrupt: OBP one on with no jump to 0, and LOB − OBP one less
 --   serves, output_ends        so after max(1, LOB − OBP) output services OUTDONE is set, whatever becomes of every other word meanwhile
 --   first_ends, from_top       a byte is done where LOB is at most OBP + 1: so after 65535, where it is the left half of word 0
 --   same_service               by the rule as it was: the same where OBP + 1 is below LOB or equal to it
 -- Here, and not in specs/laws/Ends, is what rests on other laws of specs/: an edit of a definition counts as refused where nothing in specs/ rests on the
 -- law that it breaks.
 -- Assumes nothing.
-use Rattle.std.specs.Prelude.{◌≡◌, refl, Bool, true, false, List, [], ◌∷◌, ◌⊎◌, ℕ, ◌+◌, ◌<◌, ◌≤◌, length, get_or}
-use Rattle.std.proofs.Common.{◌∙◌, inl, inr, arith, lit≤}
+use Rattle.std.specs.Prelude.{◌≡◌, refl, Bool, true, false, List, [], ◌∷◌, ◌⊎◌, ℕ, ◌+◌, ◌<◌, ◌≤◌, length, get_or, ◌&&◌, ◌||◌, eqb}
+use Rattle.std.proofs.Common.{◌∙◌, inl, inr, arith, lit≤, sym}
 use Rattle.std.proofs.Math.Path.{ap}
 use Rattle.ground.specs.Choose.{pick, bit}
 use Rattle.ground.specs.Machine.{run}
 use Rattle.words.specs.Field.{get}
-use Rattle.words.specs.Codes.{at_obp, OUTDONE, OUTMO, LEFT}
-use Rattle.words.specs.laws.Pointer.{at_end_iff, at_end_was, as_before}
+use Rattle.words.specs.Codes.{at_obp, OUTDONE, OUTMO, LEFT, at_ocw, at_lob, SPECIAL-REQUEST}
+use Rattle.words.specs.laws.Pointer.{at_end_iff, at_end_was, as_before, goes_on}
 use Rattle.words.specs.laws.Buffer.{Buffer, room, Steps, Serves, Follow, left, ends}
 use Rattle.words.specs.Byte.{half_at, byte_at}
-use Rattle.words.specs.laws.Byte.{other_word}
+use Rattle.words.specs.laws.Byte.{other_word, read_word}
 use Rattle.words.specs.Special.{special_in}
 use Rattle.unit.specs.declared.mux.Port.{Port}
 use Rattle.output.specs.declared.plan.Plan.{Plan}
-use Rattle.output.specs.Output.{auto_plan, written_ocw, output_service}
-use Rattle.output.specs.laws.Kept.{stepped}
+use Rattle.output.specs.Output.{auto_plan, written_ocw, output_service, out_done, is_auto, becomes_changed}
+use Rattle.output.specs.laws.Kept.{stepped, after, kept_word}
 use Rattle.output.specs.laws.Modes.{planned_auto}
 use Rattle.output.specs.laws.Rules.{ocw_of, next_of, fetched_of, output_by, by_the_rules}
 use Rattle.output.specs.laws.Word.{written_done, written_set, written_mode}
-use Rattle.output.specs.laws.Ends.{buffer_of, Sending, last_of, ocw_after, raises, steps, Visit, found, leaves, Done, Open, short, short_open}
+use Rattle.output.specs.laws.Ends.{buffer_of, Sending, last_of, ocw_after, Visit, found, leaves, Done, Open, short, short_open}
+use Rattle.std.proofs.Math.Seq.{get_or-set_other}
+use Rattle.ground.specs.laws.Rows.{or-false}
+use Rattle.unit.specs.laws.Sound.{Placed}
+
+-- ---- one service
+
+module _ (codes : List Bool) (m : List ℕ) (a : ℕ) (q : Port) (sending : Sending (ocw_of m a)) where
+  -- it is done at the end, at a special byte that was asked for, and where Device Status changed
+  pub raises : (output_service codes m a q).effect.raised ≡ ((last_of m a || (eqb (get SPECIAL-REQUEST (ocw_of m a)) 1 && special_in codes (fetched_of m a))) || becomes_changed (ocw_of m a) q.devstatus)
+  unfolding output_service stepped out_done auto_plan
+  raises = rw (planned_auto (ocw_of m a) q (fetched_of m a) (last_of m a) (special_in codes (fetched_of m a)) sending.clear sending.mode, sending.clear)
+
+  -- one that raises no interrupt has not reached the end: the next place is one on, below the end
+  pub next_below : (buffer_of m a).end < 65536 → (output_service codes m a q).effect.raised ≡ false → (next_of m a ≡ (buffer_of m a).pointer + 1) × ((buffer_of m a).pointer + 1 < (buffer_of m a).end)
+  next_below word r = goes_on (buffer_of m a).pointer (buffer_of m a).end word (or-false _ _ (or-false _ _ (sym raises ∙ r)).0).0
+
+  -- OBP after the service
+  pub obp_after : Placed m a → get_or (after codes m a q) (a + at_obp) 0 ≡ next_of m a
+  unfolding output_service stepped is_auto out_done
+  obp_after h =
+      get_or-set_other (stepped m a) (a + at_ocw) (a + at_obp) _ 0 (λ e. omega (arith, e))
+      ∙ rw (sending.clear, sending.mode) (read_word m (a + at_obp) (next_of m a) (omega (arith, h.words, h.inside)))
+
+  -- a byte that is not done
+  pub steps : Placed m a → (buffer_of m a).end < 65536 → (output_service codes m a q).effect.raised ≡ false → Steps (buffer_of m a) (buffer_of (after codes m a q) a)
+  steps placed word r =
+      let next = next_below word r in
+      record {
+        below = next.1;
+        pointer = obp_after placed ∙ next.0;
+        end = kept_word codes m a q (a + at_lob) (λ e. omega (arith, e)) (λ e. omega (arith, e));
+      }
 
 -- ---- services one after the other
 

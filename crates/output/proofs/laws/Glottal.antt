@@ -22,7 +22,8 @@ use Rattle.output.specs.laws.Kept.{stepped}
 use Rattle.output.specs.laws.Modes.{planned_auto}
 use Rattle.output.specs.laws.Rules.{ocw_of, fetched_of}
 use Rattle.output.specs.laws.Word.{written_done}
-use Rattle.output.specs.laws.Ends.{Sending, last_of, ocw_after, raises}
+use Rattle.output.specs.laws.Ends.{Sending, last_of, ocw_after}
+use Rattle.output.proofs.laws.Ends.{raises}
 use Rattle.output.specs.laws.Glottal.{Handed}
 
 module _ (codes : List Bool) (m : List ℕ) (a : ℕ) (q : Port) (sending : Sending (ocw_of m a)) where

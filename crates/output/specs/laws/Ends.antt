@@ -1,35 +1,31 @@
 -- A buffer of automatic output ends (document 02, K2).
 --   buffer_of, Sending          OCW, OBP and LOB of a port; automatic mode with OUTDONE clear
 --   last_of                     whether the buffer ends with its next byte
---   ocw_after, obp_after       OCW and OBP after a service
---   next_below, steps          a byte that raises no interrupt: OBP one on with no jump to 0, and LOB − OBP one less
+--   ocw_after                  OCW after a service
 --   Visit, found, leaves       an output service, with the memory and the port that it finds; the three words that it finds and leaves
 --   Open, open_edge, Done      automatic mode with OUTDONE clear, LOB a word; OUTDONE set
 --   short ..                   OBP 2003 with LOB 2003: one service ends it, and by the rule as it was it ran on
--- In proofs/laws/Ends, since they rest on these: serves, output_ends, first_ends, from_top, same_service, short_ends.
+-- In proofs/laws/Ends, since they rest on these: raises, next_below, obp_after, steps, serves, output_ends, first_ends, from_top, same_service, short_ends.
 -- Not here: services one after the other, and the count, in words, laws/Buffer; when the end is reached, in words, laws/Pointer; the service by any rule for the end, in Rules; an input of
 -- the same port that lies on LOB, in calls, Examples.
 -- Assumes nothing.
-use Rattle.std.specs.Prelude.{◌≡◌, refl, Bool, false, ◌&&◌, ◌||◌, List, ℕ, ◌+◌, ◌<◌, eqb, get_or, set, replicate}
-use Rattle.std.proofs.Common.{◌∙◌, sym, arith, lit<, lit≤, get_or-set_same}
-use Rattle.std.proofs.Math.Seq.{get_or-set_other}
+use Rattle.std.specs.Prelude.{◌≡◌, refl, Bool, List, ℕ, ◌+◌, ◌<◌, get_or, set, replicate}
+use Rattle.std.proofs.Common.{arith, lit<, lit≤, get_or-set_same}
 use Rattle.ground.specs.Choose.{pick, bit}
-use Rattle.ground.specs.laws.Rows.{or-false}
 use Rattle.words.specs.Field.{get, put}
-use Rattle.words.specs.Codes.{at_ocw, at_obp, at_lob, OUTDONE, OUTMO, out_auto, SPECIAL-REQUEST}
+use Rattle.words.specs.Codes.{at_ocw, at_obp, at_lob, OUTDONE, OUTMO, out_auto}
 use Rattle.words.specs.Pointer.{at_end}
-use Rattle.words.specs.laws.Pointer.{goes_on, at_end_was}
-use Rattle.words.specs.laws.Buffer.{Buffer, Steps}
+use Rattle.words.specs.laws.Pointer.{at_end_was}
+use Rattle.words.specs.laws.Buffer.{Buffer}
 use Rattle.words.specs.Byte.{half_at, byte_at, word_if}
-use Rattle.words.specs.laws.Byte.{length_word_if, read_word}
-use Rattle.words.specs.Special.{is_special, set1974, special_in}
+use Rattle.words.specs.laws.Byte.{length_word_if}
+use Rattle.words.specs.Special.{is_special, set1974}
 use Rattle.unit.specs.declared.mux.Port.{Port}
 use Rattle.unit.specs.Record.{fresh_port}
 use Rattle.unit.specs.laws.Sound.{Placed}
 use Rattle.output.specs.Output.{out_done, is_auto, auto_plan, output_plan, differs, status_bits, becomes_changed, written_ocw, output_service}
-use Rattle.output.specs.laws.Kept.{after, stepped, kept_word}
-use Rattle.output.specs.laws.Modes.{planned_auto}
-use Rattle.output.specs.laws.Rules.{ocw_of, next_of, fetched_of, output_by}
+use Rattle.output.specs.laws.Kept.{after, stepped}
+use Rattle.output.specs.laws.Rules.{ocw_of, output_by}
 
 -- OCW, OBP and LOB of the port whose block starts at the word a
 abbrev pub buffer_of : List ℕ → ℕ → Buffer
@@ -50,33 +46,6 @@ last_of m a = at_end (buffer_of m a).pointer (buffer_of m a).end
 pub ocw_after : (codes : List Bool) (m : List ℕ) (a : ℕ) (q : Port) → Placed m a → get_or (after codes m a q) (a + at_ocw) 0 ≡ written_ocw (ocw_of m a) q.devstatus (output_service codes m a q).effect.raised
 unfolding output_service stepped
 ocw_after codes m a q h = get_or-set_same (stepped m a) (a + at_ocw) _ 0 (rw length_word_if (omega (arith, h.words, h.inside)))
-
-module _ (codes : List Bool) (m : List ℕ) (a : ℕ) (q : Port) (sending : Sending (ocw_of m a)) where
-  -- it is done at the end, at a special byte that was asked for, and where Device Status changed
-  pub raises : (output_service codes m a q).effect.raised ≡ ((last_of m a || (eqb (get SPECIAL-REQUEST (ocw_of m a)) 1 && special_in codes (fetched_of m a))) || becomes_changed (ocw_of m a) q.devstatus)
-  unfolding output_service stepped out_done auto_plan
-  raises = rw (planned_auto (ocw_of m a) q (fetched_of m a) (last_of m a) (special_in codes (fetched_of m a)) sending.clear sending.mode, sending.clear)
-
-  -- one that raises no interrupt has not reached the end: the next place is one on, below the end
-  pub next_below : (buffer_of m a).end < 65536 → (output_service codes m a q).effect.raised ≡ false → (next_of m a ≡ (buffer_of m a).pointer + 1) × ((buffer_of m a).pointer + 1 < (buffer_of m a).end)
-  next_below word r = goes_on (buffer_of m a).pointer (buffer_of m a).end word (or-false _ _ (or-false _ _ (sym raises ∙ r)).0).0
-
-  -- OBP after the service
-  pub obp_after : Placed m a → get_or (after codes m a q) (a + at_obp) 0 ≡ next_of m a
-  unfolding output_service stepped is_auto out_done
-  obp_after h =
-      get_or-set_other (stepped m a) (a + at_ocw) (a + at_obp) _ 0 (λ e. omega (arith, e))
-      ∙ rw (sending.clear, sending.mode) (read_word m (a + at_obp) (next_of m a) (omega (arith, h.words, h.inside)))
-
-  -- a byte that is not done
-  pub steps : Placed m a → (buffer_of m a).end < 65536 → (output_service codes m a q).effect.raised ≡ false → Steps (buffer_of m a) (buffer_of (after codes m a q) a)
-  steps placed word r =
-      let next = next_below word r in
-      record {
-        below = next.1;
-        pointer = obp_after placed ∙ next.0;
-        end = kept_word codes m a q (a + at_lob) (λ e. omega (arith, e)) (λ e. omega (arith, e));
-      }
 
 -- ---- services one after the other
 
