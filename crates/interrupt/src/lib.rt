@@ -1,5 +1,5 @@
 // The interrupt side of the unit: the flag, and the status word of an EDS-8 or the stack of a Mighty Mux, and all that changes them. No crate of the multiplexer reads or writes inside it; the digests and pokes of driver do.
-#![tactic(auto)]
+#![tactic(auto, unfolding(crate::specs::Interrupt::cleared, crate::specs::Interrupt::unsound, crate::specs::Interrupt::merged, crate::specs::Interrupt::raised, crate::specs::Interrupt::started, crate::specs::Interrupt::ticked, crate::specs::Interrupt::shown))]
 
 pub mod stack;
 pub mod status;
@@ -12,20 +12,21 @@ use words::codes::REAL_TIME;
 use words::field::put;
 
 // The two kinds of unit.
-#[derive(Clone, Copy)]
+#[derive(Clone, Copy, PartialEq, Eq, Debug)]
 pub enum Kind {
     Eds8,
     MightyMux,
 }
 
 // The two services of a port, each of which may raise an interrupt.
-#[derive(Clone, Copy)]
+#[derive(Clone, Copy, PartialEq, Eq, Debug)]
 pub enum Service {
     Input,
     Output,
 }
 
 // The interrupt flag and the status word; of a Mighty Mux the lost mark, how many entries are stacked, and the stack, the oldest entry first.
+// The stack is an array with its fill beside it, and no Vec or type of its own: no heap, and `door::call` takes any record, also one of more entries, which refusal 6 is for.
 #[derive(Clone, Copy)]
 pub struct Irq {
     pub flag: bool,
@@ -67,13 +68,15 @@ fn merge(i: Irq, s: Service, address: u16) -> Irq
     requires { address < 128 }
     ensures { result ≡ merged s address i }
 {
-    let mut v = i;
-    v.flag = true;
-    v.status = status::status_after(i.status, s, address);
-    v
+    Irq {
+        flag: true,
+        status: status::status_after(i.status, s, address),
+        ..i
+    }
 }
 
 // An interrupt raised by the port of that address.
+// The address is a u16 with its bound in a clause, here and below, and no type that keeps it: docs/CLAIMS.md names `raise` and `address_at`, which may take no type with an invariant.
 pub fn raise(k: Kind, i: Irq, s: Service, address: u16) -> Irq
     requires { address < 128 }
     ensures { result ≡ raised k s address i }
@@ -88,10 +91,11 @@ pub fn raise(k: Kind, i: Irq, s: Service, address: u16) -> Irq
 fn quiet(i: Irq) -> Irq
     ensures { result ≡ quieted i }
 {
-    let mut v = i;
-    v.flag = false;
-    v.status = 0;
-    v
+    Irq {
+        flag: false,
+        status: 0,
+        ..i
+    }
 }
 
 // START.
@@ -108,10 +112,11 @@ pub fn start(k: Kind, i: Irq) -> Irq
 pub fn tick(i: Irq) -> Irq
     ensures { result ≡ ticked i }
 {
-    let mut v = i;
-    v.flag = true;
-    v.status = put(i.status, REAL_TIME, 1);
-    v
+    Irq {
+        flag: true,
+        status: put(i.status, REAL_TIME, 1),
+        ..i
+    }
 }
 
 // What DIA returns.

@@ -1,4 +1,6 @@
 // The stack of a Mighty Mux (000, section 2.4.7): first in, first out, forty entries, the oldest in place 0, and every freed place 0.
+#![tactic(auto, unfolding(ground::specs::Choose::pick, crate::specs::Stack::entry, crate::specs::Stack::pushed, crate::specs::Stack::removed, crate::specs::Stack::popped, crate::specs::Stack::oldest, crate::specs::Stack::top))]
+
 ghost use Rattle.std.specs.Prelude.{◌≡◌, ◌<◌};
 ghost use Rattle.interrupt.specs.Stack.{entry, queued, overflowed, pushed, shifted, removed, popped, oldest, top};
 
@@ -23,22 +25,25 @@ fn queue(i: Irq, e: u16) -> Irq
     requires { i.fill < 40 }
     ensures { result ≡ queued e i }
 {
-    let at = i.fill as usize;
-    let mut v = i;
-    v.flag = true;
-    v.fill = i.fill + 1;
-    v.stack[at] = e;
-    v
+    let mut stack = i.stack;
+    stack[i.fill as usize] = e;
+    Irq {
+        flag: true,
+        fill: i.fill + 1,
+        stack,
+        ..i
+    }
 }
 
 // An interrupt that finds none.
 fn overflow(i: Irq) -> Irq
     ensures { result ≡ overflowed i }
 {
-    let mut v = i;
-    v.flag = true;
-    v.lost = true;
-    v
+    Irq {
+        flag: true,
+        lost: true,
+        ..i
+    }
 }
 
 // An interrupt.
@@ -46,9 +51,10 @@ pub fn push(i: Irq, e: u16) -> Irq
     ensures { result ≡ pushed e i }
 {
     if i.fill < DEPTH {
-        return queue(i, e);
+        queue(i, e)
+    } else {
+        overflow(i)
     }
-    overflow(i)
 }
 
 // Every place takes the next one's word, and the last is 0.
@@ -56,11 +62,7 @@ fn shifted(a: [u16; 40]) -> [u16; 40]
     ensures { result ≡ shifted a }
 {
     let mut r = a;
-    let mut i = 0;
-    while i < 39 {
-        r[i] = a[i + 1];
-        i += 1;
-    }
+    r.rotate_left(1);
     r[39] = 0;
     r
 }
@@ -72,12 +74,11 @@ fn remove(i: Irq) -> Irq
     if i.fill == 0 {
         return i;
     }
-    let a = i.stack;
-    let b = shifted(a);
-    let mut v = i;
-    v.fill = i.fill - 1;
-    v.stack = b;
-    v
+    Irq {
+        fill: i.fill - 1,
+        stack: shifted(i.stack),
+        ..i
+    }
 }
 
 // START: the oldest entry removed; the flag is on exactly where entries remain, and the lost mark stays only there.
@@ -86,11 +87,12 @@ pub fn pop(i: Irq) -> Irq
 {
     let left = remove(i);
     let remain = left.fill != 0;
-    let mut v = left;
-    v.flag = remain;
-    v.status = 0;
-    v.lost = left.lost & remain;
-    v
+    Irq {
+        flag: remain,
+        status: 0,
+        lost: left.lost && remain,
+        ..left
+    }
 }
 
 // The oldest entry with the lost mark beside it, or 0.
@@ -100,8 +102,7 @@ fn oldest(i: Irq) -> u16
     if i.fill == 0 {
         return 0;
     }
-    let a = i.stack;
-    put(a[0], STACK_OVERFLOW, bit(i.lost))
+    put(i.stack[0], STACK_OVERFLOW, bit(i.lost))
 }
 
 // What DIA returns: that, with the clock's bit.

@@ -1,4 +1,6 @@
 // The merged status word of an EDS-8: what it becomes when a port is done.
+#![tactic(auto, unfolding(ground::specs::Choose::pick, crate::specs::Status::busy, crate::specs::Status::more_marked, crate::specs::Status::service_marked, crate::specs::Status::status_after))]
+
 ghost use Rattle.std.specs.Prelude.{◌≡◌, ◌<◌};
 ghost use Rattle.interrupt.specs.Status.{busy, more_marked, service_marked, status_after};
 
@@ -10,20 +12,14 @@ use words::field::{is_set, put};
 fn busy(w: u16) -> bool
     ensures { result ≡ busy w }
 {
-    if is_set(w, INPUT_DONE) {
-        return true;
-    }
-    is_set(w, OUTPUT_DONE)
+    is_set(w, INPUT_DONE) || is_set(w, OUTPUT_DONE)
 }
 
 // Bit 1, where some port was done since START.
 fn more_marked(w: u16) -> u16
     ensures { result ≡ more_marked w }
 {
-    if busy(w) {
-        return put(w, MORE_THAN_ONE, 1);
-    }
-    w
+    if busy(w) { put(w, MORE_THAN_ONE, 1) } else { w }
 }
 
 // Bit 2 for input, bit 3 for output.

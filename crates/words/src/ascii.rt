@@ -1,4 +1,6 @@
 // What 7-bit ASCII mode does to a character, to each place by itself (specs/Codes.antt, bit 3 of ICW).
+#![tactic(auto, unfolding(ground::specs::Choose::pick, crate::specs::Codes::stored_byte, crate::specs::Codes::word_byte, crate::specs::Codes::echoed_byte))]
+
 ghost use Rattle.std.specs.Prelude.{◌≡◌, ◌+◌, ◌%◌};
 ghost use Rattle.ground.specs.Choose.{pick};
 ghost use Rattle.words.specs.Codes.{stored_byte, word_byte, echoed_byte};
@@ -10,7 +12,7 @@ fn marked(seven: bool, c: u8) -> u8
     if seven { 128 + c % 128 } else { c }
 }
 
-// The byte stored in the buffer.
+// The byte stored in the buffer. It and ICW's are two functions, for the manual rules on each place by itself, and each has a definition of its own.
 pub fn stored_byte(seven: bool, c: u8) -> u8
     ensures { result ≡ stored_byte seven c }
 {

@@ -25,8 +25,6 @@ pub const INMO: Field = Field {
     span: 4,
 };
 
-pub const IN_SINGLE: u16 = 0;
-
 pub const IN_NONE: u16 = 1;
 
 pub const IN_ECHO: u16 = 3;
@@ -41,19 +39,11 @@ pub const FLAGS: Field = Field {
     span: 4,
 };
 
-pub const FLAG_NONE: u16 = 0;
-
-pub const FLAG_PARITY: u16 = 1;
-
-pub const FLAG_OVERLOAD: u16 = 2;
-
-pub const FLAG_BREAK: u16 = 3;
-
 pub const NOT_ECHOED: Field = Field { unit: 512, span: 2 };
 
-pub const NOT_ECHOED_BY_ERROR: u16 = 0;
+pub const NOT_ECHOED_BY_ERROR: bool = false;
 
-pub const NOT_ECHOED_BY_SPECIAL: u16 = 0;
+pub const NOT_ECHOED_BY_SPECIAL: bool = false;
 
 pub const SERVICE_OVERLOAD: Field = Field { unit: 256, span: 2 };
 
@@ -69,8 +59,6 @@ pub const OUTMO: Field = Field {
     unit: 8192,
     span: 4,
 };
-
-pub const OUT_NONE: u16 = 0;
 
 pub const OUT_AUTO: u16 = 1;
 

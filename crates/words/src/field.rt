@@ -1,9 +1,12 @@
 // A bit field of a 16-bit word: read and written by division, so that its meaning is plain arithmetic.
+#![tactic(auto, unfolding(ground::specs::Choose::bit, crate::specs::Field::get, crate::specs::Field::put))]
+
 ghost use Rattle.std.specs.Prelude.{◌≡◌, ◌<◌, ◌==◌};
 ghost use Rattle.ground.specs.Choose.{bit, Below};
 ghost use Rattle.words.specs.Field.{Whole, get, put};
 
-// The weight of the field's last bit, and how many values the field can have.
+// The weight of the field's last bit, and how many values the field can have. `Whole` is a clause and no ghost field: every field is a constant, whose
+// ghost field would be proved at each call too, and `bits` of specs/Field makes fields of any two bits, also such as are not whole.
 #[derive(Clone, Copy)]
 pub struct Field {
     pub unit: u16,
@@ -35,9 +38,9 @@ pub fn put(w: u16, f: Field, v: u16) -> u16
     w - w / f.unit % f.span * f.unit + v * f.unit
 }
 
-// A bit's number.
+// A bit's number: the library's conversion, under the definition's name and with its bound, which `put` asks for.
 pub fn bit(b: bool) -> u16
     ensures { Below 2 (bit b) result }
 {
-    if b { 1 } else { 0 }
+    u16::from(b)
 }

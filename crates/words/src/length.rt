@@ -1,4 +1,6 @@
 // A port's length, 5 to 8 bits by its control bits, and the cut of a character to it.
+#![tactic(auto, unfolding(crate::specs::Length::cut, crate::specs::Length::span_of))]
+
 ghost use Rattle.std.specs.Prelude.{◌≡◌};
 ghost use Rattle.words.specs.Length.{cut, span_of};
 

@@ -6,6 +6,7 @@ pub mod byte;
 pub mod codes;
 pub mod field;
 pub mod length;
+pub mod modes;
 pub mod pointer;
 pub mod special;
 pub mod speed;

@@ -1,4 +1,6 @@
 // Byte pointers, for input and output alike: the step, and whether the buffer ends with it.
+#![tactic(auto, unfolding(crate::specs::Pointer::step_ptr, crate::specs::Pointer::at_end))]
+
 ghost use Rattle.std.specs.Prelude.{◌≡◌};
 ghost use Rattle.words.specs.Pointer.{step_ptr, at_end};
 
@@ -6,7 +8,7 @@ ghost use Rattle.words.specs.Pointer.{step_ptr, at_end};
 pub fn step_ptr(p: u16) -> u16
     ensures { result ≡ step_ptr p }
 {
-    std::num::wrapping_add_u16(p, 1)
+    p.wrapping_add(1)
 }
 
 // Whether the buffer ends with the next byte. In 32 bits, where 65535 + 1 is past every end.

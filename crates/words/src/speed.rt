@@ -1,4 +1,6 @@
 // The eight speeds, a constant table by the three speed bits.
+#![tactic(auto, unfolding(crate::specs::Speed::speed_of))]
+
 ghost use Rattle.std.specs.Prelude.{◌≡◌};
 ghost use Rattle.words.specs.Speed.{speed_of};
 

@@ -1,0 +1,50 @@
+// The modes of input and output, which stand in fields of two bits (001, sections 4.1 and 4.2), each by its name.
+ghost use Rattle.std.specs.Prelude.{◌≡◌};
+ghost use Rattle.words.specs.Field.{get};
+ghost use Rattle.words.specs.Codes.{INMO, OUTMO};
+ghost use Rattle.words.specs.Modes.{input_number, output_number};
+
+use crate::codes;
+use crate::field::get;
+
+// What becomes of a character: bits 1 and 2 of ICW.
+#[derive(Clone, Copy, PartialEq, Eq, Debug)]
+pub enum InputMode {
+    Single = 0,
+    NoInput = 1,
+    Auto = 2,
+    Echo = 3,
+}
+
+// What an empty transmitter gets: bits 1 and 2 of OCW.
+#[derive(Clone, Copy, PartialEq, Eq, Debug)]
+pub enum OutputMode {
+    NoOutput = 0,
+    Auto = 1,
+    Control = 2,
+    Single = 3,
+}
+
+// The mode that ICW asks for. It and OCW's are two functions, for the two words have other modes.
+pub fn input_mode(icw: u16) -> InputMode
+    ensures { input_number result ≡ get INMO icw }
+{
+    match get(icw, codes::INMO) {
+        0 => InputMode::Single,
+        1 => InputMode::NoInput,
+        2 => InputMode::Auto,
+        _ => InputMode::Echo,
+    }
+}
+
+// The mode that OCW asks for.
+pub fn output_mode(ocw: u16) -> OutputMode
+    ensures { output_number result ≡ get OUTMO ocw }
+{
+    match get(ocw, codes::OUTMO) {
+        0 => OutputMode::NoOutput,
+        1 => OutputMode::Auto,
+        2 => OutputMode::Control,
+        _ => OutputMode::Single,
+    }
+}
