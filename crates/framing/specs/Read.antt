@@ -4,15 +4,26 @@
 --   data_of                 the data bits put together
 --   parity_mark, break_mark  the marks
 --   read_code               refusals 19 and 20, or 0
+--   Frame, frame_of         what the call answers, and the answer that a result is
 --   read_frame, Looked      the call, and what it leaves
 -- Not here: what the parity bit should be, in Cells; what follows, in laws/Read.
 -- Assumes nothing.
-use Rattle.std.specs.Prelude.{Bool, true, false, not, ◌&&◌, ◌||◌, List, [], ◌∷◌, ℕ, zero, suc, ◌+◌, ◌-◌, ◌*◌, ◌^◌, eqb, ltb, length, get_or}
+use Rattle.std.specs.Prelude.{Bool, true, false, not, ◌&&◌, ◌||◌, List, [], ◌∷◌, ℕ, zero, suc, ◌+◌, ◌-◌, ◌*◌, ◌^◌, eqb, ltb, length, get_or, Result, Ok, Err}
 use Rattle.ground.specs.Choose.{pick, first_of, row}
 use Rattle.framing.specs.declared.form.Form.{Form}
-use Rattle.framing.specs.declared.read.Frame.{Frame}
+use Rattle.framing.specs.declared.refusal.Refusal.{Refusal}
+use Rattle.framing.specs.declared.read.Frame.{Frame as Taken}
 use Rattle.framing.specs.Form.{data_bits, has_parity, first_stop, frame_cells}
 use Rattle.framing.specs.Cells.{space, mark, parity_bit}
+use Rattle.framing.specs.Refusal.{number_of}
+
+-- what the call answers: the refusal number or 0, then the character and its two marks, and how many cells the frame has. Beside a refusal they are 0
+pub record Frame : Type 0 where
+  pub code : ℕ
+  pub c : ℕ
+  pub parity : Bool
+  pub brk : Bool
+  pub used : ℕ
 
 -- 0 is space; 1 and any other is mark
 unfoldable pub level : ℕ → ℕ
@@ -71,6 +82,11 @@ frame_read f g =
 -- a refusal: its number, and zeros beside it
 abbrev pub unread : ℕ → Frame
 unread k = record { code = k; c = 0; parity = false; brk = false; used = 0 }
+
+-- the answer that a result is
+abbrev pub frame_of : Result Taken Refusal → Frame
+frame_of (Err r) = unread (number_of r)
+frame_of (Ok x) = record { code = 0; c = x.c; parity = x.parity; brk = x.brk; used = x.used }
 
 -- what the call leaves: its answer and the list
 pub record Looked : Type 0 where

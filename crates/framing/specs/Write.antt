@@ -1,15 +1,27 @@
 -- A frame written into a lent list of cells (document 02, K3).
+--   Written, written_of   what the call answers, and the answer that a result is
 --   write_code    refusal 18, or 0
 --   write_frame   the call: what it answers, and every cell of the list after it
 -- Not here: what each cell of the frame is, in Cells; what follows, in laws/Write.
 -- Assumes nothing.
-use Rattle.std.specs.Prelude.{List, [], ℕ, eqb, ltb, length, drop, ◌∷◌, ◌++◌}
+use Rattle.std.specs.Prelude.{List, [], ℕ, eqb, ltb, length, drop, ◌∷◌, ◌++◌, Result, Ok, Err}
 use Rattle.ground.specs.Choose.{pick, first_of, row}
 use Rattle.ground.specs.Tab.{tab}
 use Rattle.framing.specs.declared.form.Form.{Form}
-use Rattle.framing.specs.declared.write.Written.{Written}
+use Rattle.framing.specs.declared.refusal.Refusal.{Refusal}
 use Rattle.framing.specs.Form.{frame_cells}
 use Rattle.framing.specs.Cells.{frame_cell}
+use Rattle.framing.specs.Refusal.{number_of}
+
+-- what the call answers: the refusal number or 0, and how many cells were written
+pub record Written : Type 0 where
+  pub code : ℕ
+  pub used : ℕ
+
+-- the answer that a result is
+abbrev pub written_of : Result ℕ Refusal → Written
+written_of (Err r) = record { code = number_of r; used = 0 }
+written_of (Ok n) = record { code = 0; used = n }
 
 -- what the call leaves: its answer and the list
 pub record Wrote : Type 0 where

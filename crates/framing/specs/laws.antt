@@ -12,6 +12,7 @@
 --   Changed    a frame whose parity bit, first stop or data bit was changed on the way
 --   Any        what any list gives: cells after the first stop, and lists that read without a mark
 --   Outcomes   any two outcomes that a contract allows are equal
+--   Views      what the code answers is settled by what the definitions say of it
 --   Examples   the worked examples hold
 pub mod Form
 pub mod Cells
@@ -26,4 +27,5 @@ pub mod Frames
 pub mod Changed
 pub mod Any
 pub mod Outcomes
+pub mod Views
 pub mod Examples

@@ -3,18 +3,19 @@ ghost use Rattle.std.specs.Prelude.{◌≡◌};
 ghost use Rattle.framing.specs.Eds8.{bits_of, parity_of, stops_of, form_of};
 
 use crate::form::{DataBits, Form, Parity, Stops};
-use crate::number::bits_numbered;
 use words::codes::{EVEN_PARITY, LENGTH, PARITY_INHIBIT, STOP_BAUDS};
 use words::field::{get, is_set};
 
 // The number of data bits, by bits 10 and 11.
+#[tactic(auto, unfolding(crate::specs::Eds8::bits_of))]
 fn bits_of(control: u8) -> DataBits
     ensures { result ≡ bits_of control }
 {
-    bits_numbered(get(control as u16, LENGTH) as u32)
+    DataBits::from(get(control as u16, LENGTH) as u32)
 }
 
 // The parity, by bits 8 and 12.
+#[tactic(auto, unfolding(crate::specs::Eds8::parity_of, ground::specs::Choose::pick))]
 fn parity_of(control: u8) -> Parity
     ensures { result ≡ parity_of control }
 {
@@ -28,6 +29,7 @@ fn parity_of(control: u8) -> Parity
 }
 
 // The stops, by bit 9.
+#[tactic(auto, unfolding(crate::specs::Eds8::stops_of, ground::specs::Choose::pick))]
 fn stops_of(control: u8) -> Stops
     ensures { result ≡ stops_of control }
 {
@@ -37,7 +39,8 @@ fn stops_of(control: u8) -> Stops
     Stops::One
 }
 
-// The form of a port's frames.
+// The form of a port's frames. A function and no From: From<u32> is the form of a number, and a byte of control bits is no such number.
+#[tactic(auto, unfolding(crate::specs::Eds8::form_of))]
 pub fn form_of(control: u8) -> Form
     ensures { result ≡ form_of control }
 {

@@ -4,6 +4,7 @@
 pub mod cells;
 pub mod eds8;
 pub mod form;
-pub mod number;
+mod heard;
 pub mod read;
+pub mod refusal;
 pub mod write;

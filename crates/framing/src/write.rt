@@ -2,45 +2,32 @@
 ghost use Rattle.std.specs.Prelude.{◌≡◌, ◌≤◌, length};
 ghost use Rattle.ground.specs.laws.Arrays.{tab_to};
 ghost use Rattle.framing.specs.Cells.{frame_cell};
-ghost use Rattle.framing.specs.Write.{wrote, write_frame};
+ghost use Rattle.framing.specs.Write.{written_of, wrote, write_frame};
 
 use crate::cells::frame_cell;
-use crate::form::{Form, frame_cells};
+use crate::form::Form;
+use crate::refusal::Refusal;
 
-// The list is too short for the frame.
-pub const NO_ROOM: u8 = 18;
-
-// The refusal number or 0, and how many cells were written.
-#[derive(Clone, Copy)]
-pub struct Written {
-    pub code: u8,
-    pub used: u32,
-}
-
+#[tactic(auto, using(ground::specs::laws::Arrays::tab_none, ground::specs::laws::Arrays::tab_one))]
 // The frame put into the first cells, the others left as they were.
 fn fill(f: Form, c: u8, cells: &mut [u8], n: u32)
     requires { n ≤ length cells.old }
     ensures { cells.new ≡ tab_to n (frame_cell f c) cells.old }
 {
-    let mut i = 0;
-    while i < n {
-        let at = i as usize;
-        cells[at] = frame_cell(f, c, i);
-        i += 1;
+    for (i, cell) in cells[..n as usize].iter_mut().enumerate() {
+        *cell = frame_cell(f, c, i as u32);
     }
 }
 
-// A frame of the character, written into the lent cells.
-pub fn write_frame(f: Form, c: u8, cells: &mut [u8]) -> Written
-    ensures { wrote result cells.new ≡ write_frame f c cells.old }
+// A frame of the character, written into the lent cells; and how many cells it has.
+#[tactic(auto, unfolding(crate::specs::Write::write_frame, crate::specs::Write::write_code, ground::specs::Choose::first_of, ground::specs::Choose::pick))]
+pub fn write_frame(f: Form, c: u8, cells: &mut [u8]) -> Result<u32, Refusal>
+    ensures { wrote (written_of result) cells.new ≡ write_frame f c cells.old }
 {
-    let n = frame_cells(f);
+    let n = f.frame_cells();
     if cells.len() < n as usize {
-        return Written {
-            code: NO_ROOM,
-            used: 0,
-        };
+        return Err(Refusal::NoRoom);
     }
     fill(f, c, cells, n);
-    Written { code: 0, used: n }
+    Ok(n)
 }

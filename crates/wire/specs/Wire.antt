@@ -1,7 +1,7 @@
 -- The arrival of a character that was read from the wire (document 02, K3).
 -- Not here: how a frame is read, in framing; what an arrival does, in lines; what follows, in laws/Wire.
 -- Assumes nothing.
-use Rattle.framing.specs.declared.read.Frame.{Frame}
+use Rattle.framing.specs.Read.{Frame}
 use Rattle.lines.specs.declared.signal.Signal.{Signal}
 use Rattle.lines.specs.declared.signal.Signal.TheVariants.{Arrival}
 

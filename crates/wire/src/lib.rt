@@ -2,6 +2,7 @@
 #![tactic(auto)]
 
 ghost use Rattle.std.specs.Prelude.{◌≡◌};
+ghost use Rattle.framing.specs.Read.{frame_of};
 ghost use Rattle.wire.specs.Wire.{arrival_of};
 
 use framing::read::Frame;
@@ -9,7 +10,7 @@ use lines::signal::Signal;
 
 // The arrival of the character that was read, with its own two marks.
 pub fn arrival_of(r: Frame) -> Signal
-    ensures { result ≡ arrival_of r }
+    ensures { result ≡ arrival_of (frame_of (Ok r)) }
 {
     Signal::Arrival {
         c: r.c,

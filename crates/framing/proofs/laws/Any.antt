@@ -13,10 +13,9 @@ use Rattle.std.proofs.Math.Numerals.{add-one}
 use borrow.Author.Tests.{eqb-true, eqb-false, not-false}
 use Rattle.ground.specs.laws.Rows.{or-false}
 use Rattle.framing.specs.declared.form.Form.{Form}
-use Rattle.framing.specs.declared.read.Frame.{Frame}
 use Rattle.framing.specs.Form.{data_bits, has_parity, first_stop, frame_cells}
 use Rattle.framing.specs.Cells.{space, mark, bit_at, limited, parity_bit, baud, frame_cell}
-use Rattle.framing.specs.Read.{level, level_at, data_of, parity_mark, break_mark, read_code, frame_read, read_frame}
+use Rattle.framing.specs.Read.{Frame, level, level_at, data_of, parity_mark, break_mark, read_code, frame_read, read_frame}
 use Rattle.framing.specs.laws.Form.{first_stop_lem}
 use Rattle.framing.specs.laws.Cells.{baud_start, first_half_lem, second_half}
 use Rattle.framing.proofs.laws.Cells.{baud_data, baud_parity, baud_stop}

@@ -9,10 +9,9 @@ use Rattle.std.proofs.Common.{sym, ◌∙◌, arith}
 use Rattle.std.proofs.Math.Path.{subst⁻¹}
 use Prim.Native.Nat.{ℕ, suc, ◌+◌, ◌-◌, ◌*◌, ◌^◌, ◌<◌, ◌≤◌}
 use Rattle.framing.specs.declared.form.Form.{Form}
-use Rattle.framing.specs.declared.read.Frame.{Frame}
 use Rattle.framing.specs.Form.{data_bits, has_parity, first_stop, frame_cells}
 use Rattle.framing.specs.Cells.{space, bit_at}
-use Rattle.framing.specs.Read.{level, level_at}
+use Rattle.framing.specs.Read.{Frame, level, level_at}
 use Rattle.framing.specs.laws.Form.{first_stop_lem, stop_checked, frame_cells_lem}
 use Rattle.framing.specs.laws.Levels.{with_baud, changed_length, changed_first, changed_second, changed_else}
 use Rattle.framing.specs.laws.Frames.{Sounds}

@@ -11,6 +11,7 @@ use Rattle.std.proofs.Math.Path.{sym, ap, ap₂}
 use Rattle.std.proofs.Common.{◌∙◌, inl, inr, le_of_suc-le-suc, not-suc-le-zero, eq-or-lt_of_le, mod-eq_of_lt, arith}
 use Prim.Native.Nat.{ℕ, zero, suc, ◌+◌, ◌-◌, ◌*◌, ◌/◌, ◌%◌, ◌^◌, ◌<◌}
 use Rattle.std.proofs.Math.Nat.{mod-one}
+use Rattle.std.proofs.Math.Numerals.{one-add}
 use Rattle.std.proofs.lemmas.Nat.{mod-pow-add}
 use Rattle.std.proofs.Math.Pow.{mod-mod-pow, field, high, low}
 use Rattle.std.specs.Int.Count.{ones, ones_in, ones_cat}
@@ -18,13 +19,7 @@ use Rattle.framing.specs.Cells.{bit_at}
 use Rattle.framing.specs.Read.{data_of}
 use Rattle.framing.specs.laws.Read.{data_below}
 
-one-add : (m : ℕ) → 1 + m ≡ suc m
-one-add m = omega arith
-
 -- a number of one bit
-one_bit : (x : ℕ) → x < 2 → x % 2 ≡ x
-one_bit x h = mod-eq_of_lt h
-
 one_ones : (x : ℕ) → x < 2 → ones x ≡ x
 unfolding ones ones_in
 one_ones zero h = refl
@@ -68,7 +63,7 @@ module _ (g : ℕ → ℕ) where
         rest = data_below g below m
 
         top : bit_at (g (2 * suc m) * 2 ^ m + data_of g m) m ≡ g (2 * suc m)
-        top = ap (λ (x : ℕ). x % 2) (high (g (2 * suc m)) m rest) ∙ one_bit (g (2 * suc m)) (below (2 * suc m))
+        top = ap (λ (x : ℕ). x % 2) (high (g (2 * suc m)) m rest) ∙ mod-eq_of_lt (below (2 * suc m))
 
         lower : k < m → bit_at (g (2 * suc m) * 2 ^ m + data_of g m) k ≡ bit_at (data_of g m) k
         lower l =

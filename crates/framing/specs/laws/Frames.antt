@@ -10,10 +10,9 @@ use Rattle.std.proofs.Common.{sym, ◌∙◌, inl, inr, add-one, arith, ltb-true
 use Rattle.std.proofs.Math.Bool.{true, false, not}
 use Rattle.std.proofs.Math.Nat.{mod-mod}
 use Rattle.framing.specs.declared.form.Form.{Form}
-use Rattle.framing.specs.declared.read.Frame.{Frame}
 use Rattle.framing.specs.Form.{data_bits, has_parity, first_stop, frame_cells}
 use Rattle.framing.specs.Cells.{space, bit_at, limited, parity_bit}
-use Rattle.framing.specs.Read.{data_of, parity_mark, break_mark}
+use Rattle.framing.specs.Read.{Frame, data_of, parity_mark, break_mark}
 use Rattle.framing.specs.laws.Form.{stop_checked, stop_unchecked}
 use Rattle.framing.specs.laws.Data.{data_cut}
 use Rattle.framing.specs.laws.Refusals.{Framed}

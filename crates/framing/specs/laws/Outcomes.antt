@@ -4,10 +4,8 @@
 use Rattle.std.specs.Prelude.{◌≡◌, List, ℕ}
 use Rattle.std.proofs.Common.{sym, ◌∙◌, ap}
 use Rattle.framing.specs.declared.form.Form.{Form}
-use Rattle.framing.specs.declared.read.Frame.{Frame}
-use Rattle.framing.specs.declared.write.Written.{Written}
-use Rattle.framing.specs.Write.{Wrote, wrote, write_frame}
-use Rattle.framing.specs.Read.{Looked, looked, read_frame}
+use Rattle.framing.specs.Write.{Written, Wrote, wrote, write_frame}
+use Rattle.framing.specs.Read.{Frame, Looked, looked, read_frame}
 
 -- of writing: the answer, and every cell of the list
 pub write_one : (f : Form) (c : ℕ) (d : List ℕ) (r s : Written) (xs ys : List ℕ) → wrote r xs ≡ write_frame f c d → wrote s ys ≡ write_frame f c d → (r ≡ s) × (xs ≡ ys)

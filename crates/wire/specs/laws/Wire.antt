@@ -11,17 +11,16 @@ use Rattle.std.specs.Prelude.{◌≡◌, refl, true, false, List, ℕ, ◌^◌, 
 use Rattle.std.proofs.Common.{◌∙◌, ap, subst, mod-eq_of_lt}
 use Rattle.std.proofs.Math.Nat.{mod-mod}
 use Rattle.words.specs.Length.{span_of, cut}
-use Rattle.framing.specs.declared.read.Frame.{Frame}
 use Rattle.framing.specs.Form.{frame_cells}
 use Rattle.framing.specs.Write.{write_frame}
-use Rattle.framing.specs.Read.{read_frame}
+use Rattle.framing.specs.Read.{Frame, read_frame}
 use Rattle.framing.specs.Eds8.{form_of}
 use Rattle.framing.proofs.laws.Any.{read_below}
 use Rattle.framing.specs.laws.Eds8.{eds8_bits}
 use Rattle.framing.proofs.laws.Eds8.{eds8_back}
 use Rattle.unit.specs.declared.mux.Port.{Port}
 use Rattle.unit.specs.declared.mux.Mux.{Mux}
-use Rattle.unit.specs.declared.reply.Reply.{Reply}
+use Rattle.unit.specs.Reply.{Reply}
 use Rattle.unit.specs.Record.{port_at}
 use Rattle.unit.specs.Reply.{World}
 use Rattle.unit.specs.Refusals.{refusal, of_port}
