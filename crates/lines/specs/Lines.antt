@@ -9,7 +9,7 @@ use Rattle.std.specs.Prelude.{Bool, true, ℕ}
 use Rattle.words.specs.Length.{cut}
 use Rattle.unit.specs.declared.mux.Port.{Port}
 use Rattle.unit.specs.declared.mux.Mux.{Mux}
-use Rattle.unit.specs.declared.reply.Replied.{Replied}
+use Rattle.unit.specs.Reply.{Replied}
 use Rattle.unit.specs.Record.{port_at, with_port}
 use Rattle.unit.specs.Reply.{accepted, guarded}
 use Rattle.unit.specs.Refusals.{refusal, of_port}

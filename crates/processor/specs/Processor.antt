@@ -15,7 +15,7 @@ use Rattle.interrupt.specs.declared.Irq.{Irq}
 use Rattle.interrupt.specs.Interrupt as Interrupt
 use Rattle.unit.specs.declared.mux.Port.{Port}
 use Rattle.unit.specs.declared.mux.Mux.{Mux}
-use Rattle.unit.specs.declared.reply.Replied.{Replied}
+use Rattle.unit.specs.Reply.{Replied}
 use Rattle.unit.specs.Record.{no_character, remade}
 use Rattle.unit.specs.Reply.{accepted, guarded}
 use Rattle.unit.specs.Refusals.{refusal, of_unit}

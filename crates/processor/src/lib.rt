@@ -3,78 +3,67 @@
 
 pub mod orders;
 
-ghost use Rattle.std.specs.Prelude.{◌≡◌, map};
+ghost use Rattle.std.specs.Prelude.{◌≡◌};
 ghost use Rattle.ground.specs.Choose.{pick};
 ghost use Rattle.interrupt.specs.Interrupt.{ticked};
+ghost use Rattle.unit.specs.Reply.{replied_of};
 ghost use Rattle.processor.specs.Processor.{reset_port, switched, reset_unit, value_of, after, order};
 
 use crate::orders::Order;
 use interrupt::{Irq, Kind};
 use unit::mux::{Mux, Port};
-use unit::refusal::sound_code;
-use unit::reply::{Replied, accepted, refused};
+use unit::refusal::{Refusal, sound_refusal};
+use unit::reply::{Replied, accepted};
 use unit::setup::no_character;
 use words::codes::SPEED;
 use words::field::put;
 
 // The port after a reset.
+#[tactic(auto, using(words::specs::laws::Field::put_zero), unfolding(crate::specs::Processor::reset_port))]
 fn reset_port(q: Port) -> Port
     ensures { result ≡ reset_port q }
 {
-    let mut r = q;
-    r.held = false;
-    r.ch = no_character();
-    r.empty = true;
-    r.control = put(q.control as u16, SPEED, 0) as u8;
-    r.devcontrol = true;
-    r
-}
-
-// Every port of the array after a reset, those past P as well: none of them can be seen.
-fn reset_ports(t: [Port; 128]) -> [Port; 128]
-    ensures { result ≡ map reset_port t }
-{
-    let mut r = t;
-    let mut i = 0;
-    while i < 128 {
-        r[i] = reset_port(r[i]);
-        i += 1;
+    Port {
+        held: false,
+        ch: no_character(),
+        empty: true,
+        control: put(q.control as u16, SPEED, 0) as u8,
+        devcontrol: true,
+        ..q
     }
-    r
 }
 
 // The record with other switches and another interrupt side.
 fn switched(u: Mux, runs: bool, clock: bool, irq: Irq) -> Mux
     ensures { result ≡ switched u runs clock irq }
 {
-    let mut v = u;
-    v.runs = runs;
-    v.clock = clock;
-    v.irq = irq;
-    v
+    Mux {
+        runs,
+        clock,
+        irq,
+        ..u
+    }
 }
 
-// The record after a reset.
+// The record after a reset: every port of the array, those past P as well, for none of them can be seen.
 fn reset_unit(u: Mux) -> Mux
     ensures { result ≡ reset_unit u }
 {
-    let t = u.port;
     let i = u.irq;
-    let mut v = switched(u, false, false, interrupt::cleared(i));
-    v.pos = 0;
-    let p = reset_ports(t);
-    v.port = p;
-    v
+    let t = u.port;
+    Mux {
+        pos: 0,
+        port: t.map(reset_port),
+        ..switched(u, false, false, interrupt::cleared(i))
+    }
 }
 
 // The interrupt side after a tick, with the clock on or off.
+#[tactic(auto, unfolding(ground::specs::Choose::pick))]
 fn clocked(clock: bool, i: Irq) -> Irq
     ensures { result ≡ pick clock (ticked i) i }
 {
-    if clock {
-        return interrupt::tick(i);
-    }
-    i
+    if clock { interrupt::tick(i) } else { i }
 }
 
 // What the order returns beside its number: DIA and DIAS the status word, or the oldest entry, as they find it, the others 0.
@@ -82,18 +71,13 @@ fn value_of(o: Order, k: Kind, i: Irq) -> u16
     ensures { result ≡ value_of o k i }
 {
     match o {
-        Order::Reset => 0,
-        Order::Iopls => 0,
-        Order::Start => 0,
-        Order::Doc => 0,
-        Order::Dob => 0,
-        Order::Dia => interrupt::dia(k, i),
-        Order::Dias => interrupt::dia(k, i),
-        Order::Tick => 0,
+        Order::Dia | Order::Dias => interrupt::dia(k, i),
+        _ => 0,
     }
 }
 
 // The record after the order.
+#[tactic(auto, unfolding(crate::specs::Processor::after))]
 fn after(u: Mux, o: Order) -> Mux
     ensures { result ≡ after o u }
 {
@@ -113,15 +97,13 @@ fn after(u: Mux, o: Order) -> Mux
 }
 
 // An order: refused for an unsound record.
-pub fn order(u: Mux, o: Order) -> Replied
-    ensures { result ≡ order u o }
+#[tactic(auto, using(unit::proofs::Found::refuses, unit::proofs::Found::takes), unfolding(crate::specs::Processor::order))]
+pub fn order(u: Mux, o: Order) -> Result<Replied, Refusal>
+    ensures { replied_of u result ≡ order u o }
 {
-    let code = sound_code(u);
-    if code != 0 {
-        return refused(code, u);
-    }
+    sound_refusal(u)?;
     let s = u.setting;
     let k = s.kind;
     let i = u.irq;
-    accepted(value_of(o, k, i), after(u, o))
+    Ok(accepted(value_of(o, k, i), after(u, o)))
 }

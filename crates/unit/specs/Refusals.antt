@@ -4,9 +4,10 @@
 --   Given                    what a call is given: each argument where the call has one
 --   refusal                  the table: the first row that applies, and 0 where none does
 --   of_setup .. of_sweep       what each kind of call is given
+--   number_of, code_of      the code's refusals by number: a refusal, and what a check of the table found
 -- Not here: what a refused call leaves, in Reply; what each number says, in laws/Refusals.
 -- Assumes nothing.
-use Rattle.std.specs.Prelude.{Bool, false, not, ◌||◌, List, [], ◌∷◌, ◌++◌, ℕ, ◌+◌, ◌-◌, ◌*◌, ◌/◌, ◌%◌, eqb, leb, ltb, length}
+use Rattle.std.specs.Prelude.{Bool, false, not, ◌||◌, List, [], ◌∷◌, ◌++◌, ℕ, ◌+◌, ◌-◌, ◌*◌, ◌/◌, ◌%◌, eqb, leb, ltb, length, Result, Ok, Err}
 use Rattle.std.proofs.Math.Option.{Option, some, none}
 use Rattle.ground.specs.Choose.{asked, Row, row, first_of}
 use Rattle.interrupt.specs.declared.Kind.{Kind}
@@ -14,6 +15,8 @@ use Rattle.interrupt.specs.declared.Kind.TheVariants.{Eds8, MightyMux}
 use Rattle.interrupt.specs.Interrupt as Interrupt
 use Rattle.unit.specs.declared.mux.Setting.{Setting}
 use Rattle.unit.specs.declared.mux.Mux.{Mux}
+use Rattle.unit.specs.declared.refusal.Refusal.{Refusal}
+use Rattle.unit.specs.declared.refusal.Refusal.TheVariants.{BadBlock, BadPorts, Misaligned, Crosses, Unsound, BadMemory, NoPort, TooMany, ShortList, TooHigh, BadLocation}
 
 -- ---- the limits and the numbers
 
@@ -177,3 +180,23 @@ of_inspection u m =
 abbrev pub of_sweep : Mux → List ℕ → ℕ → List ℕ → Given
 of_sweep u m n xs =
     record { setting = none; unit = some u; memory = some m; port = none; inspections = some n; list = some xs }
+
+-- ---- the code's refusals
+
+abbrev pub number_of : Refusal → ℕ
+number_of BadBlock = BAD-BLOCK
+number_of BadPorts = BAD-PORTS
+number_of Misaligned = MISALIGNED
+number_of Crosses = CROSSES
+number_of Unsound = UNSOUND
+number_of BadMemory = BAD-MEMORY
+number_of NoPort = NO-PORT
+number_of TooMany = TOO-MANY
+number_of ShortList = SHORT-LIST
+number_of TooHigh = TOO-HIGH
+number_of BadLocation = BAD-LOCATION
+
+-- what a check found: the number of the refusal, or 0
+abbrev pub code_of : Result (Unit {0}) Refusal → ℕ
+code_of (Ok found) = 0
+code_of (Err e) = number_of e

@@ -2,7 +2,7 @@
 -- Not here: which settings are refused, in Refusals; what a fresh unit is, in Record.
 -- Assumes nothing.
 use Rattle.unit.specs.declared.mux.Setting.{Setting}
-use Rattle.unit.specs.declared.reply.Replied.{Replied}
+use Rattle.unit.specs.Reply.{Replied}
 use Rattle.unit.specs.Record.{fresh, no_mux}
 use Rattle.unit.specs.Reply.{accepted, guarded}
 use Rattle.unit.specs.Refusals.{refusal, of_setup}

@@ -8,6 +8,7 @@
 --   Replies    the number of each answer; what a refused call leaves, and one that is not
 --   Ports      the ports of a record
 --   Set        the set of special codes in the setting and the record: setup keeps it, and no refusal asks it
+--   Views      what the code answers is settled by what the definitions say of it
 --   Kind       the kind of unit in them: setup keeps it; a record with more than 40 entries is refused, of either kind
 pub mod Refusals
 pub mod Sound
@@ -18,4 +19,5 @@ pub mod Base
 pub mod Replies
 pub mod Ports
 pub mod Set
+pub mod Views
 pub mod Kind

@@ -1,8 +1,7 @@
-// What a port's service may change beside the memory: the byte handed to the transmitter, whether an interrupt is raised, the control bits and the Device Control level after it.
+// What a port's service may change beside the memory: the byte handed to the transmitter if any, whether an interrupt is raised, the control bits and the Device Control level after it.
 #[derive(Clone, Copy)]
 pub struct Effect {
-    pub sent: bool,
-    pub byte: u8,
+    pub sent: Option<u8>,
     pub raised: bool,
     pub control: u8,
     pub devcontrol: bool,

@@ -26,6 +26,7 @@ pub struct Character {
 }
 
 // A port: the held character, whether the transmitter's buffer is empty, the eight control bits, the Device Control level, the Device Status line.
+// `held` stands beside the character, and no Option holds it: the record that is lent is any record, and what a call keeps of it is kept also where none is held (door::call).
 #[derive(Clone, Copy)]
 pub struct Port {
     pub held: bool,
@@ -37,6 +38,7 @@ pub struct Port {
 }
 
 // The unit: its setting, the scan position, whether the unit and the 10 ms clock run, the interrupt side, the ports.
+// The ports are an array of 128, of which the setting's P are served, and no Vec: there is no heap, and the record that is lent has one size (door::call).
 #[derive(Clone, Copy)]
 pub struct Mux {
     pub setting: Setting,
@@ -48,26 +50,25 @@ pub struct Mux {
 }
 
 // The port p of the record.
+#[tactic(auto, unfolding(crate::specs::Record::port_at))]
 pub fn port_at(u: Mux, p: u32) -> Port
     requires { p < 128 }
     ensures { result ≡ port_at u p }
 {
-    let i = p as usize;
-    u.port[i]
+    u.port[p as usize]
 }
 
 // The record with q as its port p.
-pub fn with_port(u: Mux, p: u32, q: Port) -> Mux
+pub fn with_port(mut u: Mux, p: u32, q: Port) -> Mux
     requires { p < 128 }
     ensures { result ≡ with_port u p q }
 {
-    let i = p as usize;
-    let mut v = u;
-    v.port[i] = q;
-    v
+    u.port[p as usize] = q;
+    u
 }
 
 // The first word of port p's control block. Its eight words lie in the memory.
+#[tactic(auto, using(crate::proofs::laws::Sound::block_inside), unfolding(crate::specs::Record::block_at))]
 pub fn block_at(s: Setting, p: u32) -> usize
     requires fits { Fits s }
     requires p_lt_ports { p < s.ports }
@@ -77,6 +78,7 @@ pub fn block_at(s: Setting, p: u32) -> usize
 }
 
 // The address of port p, as the status word has it.
+#[tactic(auto, unfolding(crate::specs::Record::address_at))]
 pub fn address_at(s: Setting, p: u32) -> u16
     requires fits { Fits s }
     requires p_lt_ports { p < s.ports }

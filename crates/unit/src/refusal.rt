@@ -1,15 +1,16 @@
-// The numbers a call may refuse with: the table of document 01 with the rows of K1 and K7 and without the one that K10 took out, row by row, and what each kind of call asks for first.
+// The refusals of the calls: the table of document 01 with the rows of K1 and K7 and without the one that K10 took out, row by row, and what each kind of call asks for first.
+#![tactic(auto, unfolding(ground::specs::Choose::pick, ground::specs::Choose::first_of, crate::specs::Refusals::bad_block, crate::specs::Refusals::bad_ports, crate::specs::Refusals::misaligned, crate::specs::Refusals::too_high, crate::specs::Refusals::bad_location, crate::specs::Refusals::crosses, crate::specs::Refusals::size_rows, crate::specs::Refusals::base_rows, crate::specs::Refusals::area_rows))]
+
 ghost use Rattle.std.specs.Prelude.{◌≡◌};
-ghost use Rattle.ground.specs.Choose.{first_of};
-ghost use Rattle.unit.specs.Refusals.{bad_block, bad_ports, misaligned, too_high, bad_location, crosses, size_rows, base_rows, area_rows, refusal, of_setup, of_unit, of_port, of_inspection, of_sweep, unsound};
+ghost use Rattle.ground.specs.Choose.{pick, first_of};
+ghost use Rattle.unit.specs.Refusals.{bad_block, bad_ports, misaligned, too_high, bad_location, crosses, size_rows, base_rows, area_rows, refusal, of_setup, of_unit, of_port, of_inspection, of_sweep, unsound, number_of, code_of};
 ghost use Rattle.unit.specs.Sound.{SizeFits, BaseFits};
 
 use crate::mux::{Mux, Setting};
 use interrupt::Kind;
+use words::byte::WORDS;
 
-// How many words of memory are lent, how many ports a unit may have, how many inspections a sweep may ask for.
-pub const WORDS: usize = 32768;
-
+// How many ports a unit may have, how many inspections a sweep may ask for.
 pub const MOST_PORTS: u32 = 128;
 
 pub const MOST_INSPECTIONS: u32 = 4096;
@@ -17,50 +18,50 @@ pub const MOST_INSPECTIONS: u32 = 4096;
 // A Mighty Mux's control area starts at a multiple of so many words (000, section 3.7.7).
 pub const AREA_STEP: u32 = 0o400;
 
-// The numbers, with the names of specs/Refusals.antt; the one between 4 and 6 is retired.
-pub const BAD_BLOCK: u8 = 1;
+// What a call is refused for, with the numbers of specs/Refusals.antt; the one between 4 and 6 is retired.
+#[derive(Clone, Copy, PartialEq, Eq, Debug)]
+pub enum Refusal {
+    BadBlock = 1,
+    BadPorts = 2,
+    Misaligned = 3,
+    Crosses = 4,
+    Unsound = 6,
+    BadMemory = 7,
+    NoPort = 8,
+    TooMany = 9,
+    ShortList = 10,
+    TooHigh = 11,
+    BadLocation = 12,
+}
 
-pub const BAD_PORTS: u8 = 2;
+// Its number.
+impl From<Refusal> for u8 {
+    ghost from_gives = { λ r n. n ≡ number_of r };
 
-pub const MISALIGNED: u8 = 3;
+    fn from(r: Refusal) -> u8 {
+        r as u8
+    }
+}
 
-pub const CROSSES: u8 = 4;
-
-pub const UNSOUND: u8 = 6;
-
-pub const BAD_MEMORY: u8 = 7;
-
-pub const NO_PORT: u8 = 8;
-
-pub const TOO_MANY: u8 = 9;
-
-pub const SHORT_LIST: u8 = 10;
-
-pub const TOO_HIGH: u8 = 11;
-
-pub const BAD_LOCATION: u8 = 12;
+// A row of the table.
+fn refuse_if(applies: bool, r: Refusal) -> Result<(), Refusal>
+    ensures { result ≡ pick applies (Err r) (Ok tt) }
+{
+    if applies { Err(r) } else { Ok(()) }
+}
 
 // Row 1: b is not 8, 16 or 32.
 fn bad_block(b: u32) -> bool
     ensures { result ≡ bad_block b }
 {
-    if b == 8 {
-        return false;
-    }
-    if b == 16 {
-        return false;
-    }
-    b != 32
+    !matches!(b, 8 | 16 | 32)
 }
 
 // Row 2: P is 0 or above 128.
 fn bad_ports(n: u32) -> bool
     ensures { result ≡ bad_ports n }
 {
-    if n == 0 {
-        return true;
-    }
-    MOST_PORTS < n
+    n == 0 || MOST_PORTS < n
 }
 
 // Row 3: the base is not a multiple of 8b.
@@ -99,129 +100,82 @@ fn crosses(s: Setting) -> bool
 }
 
 // Rows 1 and 2: the sizes.
-fn size_code(s: Setting) -> u8
-    ensures { result ≡ first_of (size_rows s) }
+fn size_refusal(s: Setting) -> Result<(), Refusal>
+    ensures { code_of result ≡ first_of (size_rows s) }
 {
-    if bad_block(s.block) {
-        return BAD_BLOCK;
-    }
-    if bad_ports(s.ports) {
-        return BAD_PORTS;
-    }
-    0
+    refuse_if(bad_block(s.block), Refusal::BadBlock)?;
+    refuse_if(bad_ports(s.ports), Refusal::BadPorts)
 }
 
 // Rows 3, 11 and 12: the base.
-fn base_code(s: Setting) -> u8
+fn base_refusal(s: Setting) -> Result<(), Refusal>
     requires { SizeFits s }
-    ensures { result ≡ first_of (base_rows s) }
+    ensures { code_of result ≡ first_of (base_rows s) }
 {
-    let k = s.kind;
-    if misaligned(s) {
-        return MISALIGNED;
-    }
-    if too_high(s.base) {
-        return TOO_HIGH;
-    }
-    if bad_location(k, s.base) {
-        return BAD_LOCATION;
-    }
-    0
+    refuse_if(misaligned(s), Refusal::Misaligned)?;
+    refuse_if(too_high(s.base), Refusal::TooHigh)?;
+    refuse_if(bad_location(s.kind, s.base), Refusal::BadLocation)
 }
 
 // Row 4: the area.
-fn area_code(s: Setting) -> u8
+fn area_refusal(s: Setting) -> Result<(), Refusal>
     requires size_fits { SizeFits s }
     requires base_fits { BaseFits s }
-    ensures { result ≡ first_of (area_rows s) }
+    ensures { code_of result ≡ first_of (area_rows s) }
 {
-    if crosses(s) {
-        return CROSSES;
-    }
-    0
+    refuse_if(crosses(s), Refusal::Crosses)
 }
 
-// What setup is refused with, or 0.
-pub fn setup_code(s: Setting) -> u8
-    ensures { result ≡ refusal (of_setup s) }
+// What setup is refused with.
+#[tactic(auto, using(crate::proofs::Found::size_stops, crate::proofs::Found::size_passes, crate::proofs::Found::base_stops, crate::proofs::Found::base_passes, crate::proofs::Found::area_says))]
+pub fn setup_refusal(s: Setting) -> Result<(), Refusal>
+    ensures { code_of result ≡ refusal (of_setup s) }
 {
-    let size = size_code(s);
-    if size != 0 {
-        return size;
-    }
-    let base = base_code(s);
-    if base != 0 {
-        return base;
-    }
-    area_code(s)
+    size_refusal(s)?;
+    base_refusal(s)?;
+    area_refusal(s)
 }
 
 // Row 6: the record is unsound.
+#[tactic(auto, using(crate::proofs::Found::unsound_by))]
 fn unsound(u: Mux) -> bool
     ensures { result ≡ unsound u }
 {
-    let s = u.setting;
-    if setup_code(s) != 0 {
-        return true;
-    }
-    if s.ports <= u.pos {
-        return true;
-    }
-    let i = u.irq;
-    interrupt::unsound(i)
+    setup_refusal(u.setting).is_err() || u.setting.ports <= u.pos || interrupt::unsound(u.irq)
 }
 
-// What a call on the record alone is refused with, or 0.
-pub fn sound_code(u: Mux) -> u8
-    ensures { result ≡ refusal (of_unit u) }
+// What a call on the record alone is refused with.
+#[tactic(auto, unfolding(crate::specs::Refusals::refusal, crate::specs::Refusals::table_of, crate::specs::Refusals::rows_of, crate::specs::Refusals::call_rows, ground::specs::Choose::first_of, ground::specs::Choose::asked, ground::specs::Choose::pick))]
+pub fn sound_refusal(u: Mux) -> Result<(), Refusal>
+    ensures { code_of result ≡ refusal (of_unit u) }
 {
-    if unsound(u) {
-        return UNSOUND;
-    }
-    0
+    refuse_if(unsound(u), Refusal::Unsound)
 }
 
-// What a call on a port is refused with, or 0.
-pub fn port_code(u: Mux, p: u32) -> u8
-    ensures { result ≡ refusal (of_port u p) }
+// What a call on a port is refused with.
+#[tactic(auto, using(crate::proofs::Found::port_stops, crate::proofs::Found::port_asks), unfolding(ground::specs::Choose::pick))]
+pub fn port_refusal(u: Mux, p: u32) -> Result<(), Refusal>
+    ensures { code_of result ≡ refusal (of_port u p) }
 {
-    if unsound(u) {
-        return UNSOUND;
-    }
-    let s = u.setting;
-    if s.ports <= p {
-        return NO_PORT;
-    }
-    0
+    sound_refusal(u)?;
+    refuse_if(u.setting.ports <= p, Refusal::NoPort)
 }
 
-// What an inspection is refused with, or 0.
-pub fn inspect_code(u: Mux, mem: &[u16]) -> u8
-    ensures { result ≡ refusal (of_inspection u mem.now) }
+// What an inspection is refused with.
+#[tactic(auto, using(crate::proofs::Found::inspection_stops, crate::proofs::Found::inspection_asks), unfolding(ground::specs::Choose::pick))]
+pub fn inspect_refusal(u: Mux, mem: &[u16]) -> Result<(), Refusal>
+    ensures { code_of result ≡ refusal (of_inspection u mem.now) }
 {
-    let code = sound_code(u);
-    if code != 0 {
-        return code;
-    }
-    if mem.len() != WORDS {
-        return BAD_MEMORY;
-    }
-    0
+    sound_refusal(u)?;
+    refuse_if(mem.len() != WORDS, Refusal::BadMemory)
 }
 
-// What a sweep is refused with, or 0.
-pub fn sweep_code(u: Mux, mem: &[u16], n: u32, list: &[u16]) -> u8
-    ensures { result ≡ refusal (of_sweep u mem.now n list.now) }
+// What a sweep is refused with.
+#[tactic(auto, using(crate::proofs::Found::sweep_stops, crate::proofs::Found::sweep_asks), unfolding(ground::specs::Choose::pick))]
+pub fn sweep_refusal(u: Mux, mem: &[u16], n: u32, list: &[u16]) -> Result<(), Refusal>
+    ensures { code_of result ≡ refusal (of_sweep u mem.now n list.now) }
 {
-    let code = inspect_code(u, mem);
-    if code != 0 {
-        return code;
-    }
-    if MOST_INSPECTIONS < n {
-        return TOO_MANY;
-    }
-    if list.len() < n as usize {
-        return SHORT_LIST;
-    }
-    0
+    inspect_refusal(u, mem)?;
+    refuse_if(MOST_INSPECTIONS < n, Refusal::TooMany)?;
+    refuse_if(list.len() < n as usize, Refusal::ShortList)
 }

@@ -1,12 +1,12 @@
-// What calls answer: one struct for all of them, so that a refusal is the same answer everywhere.
+// What calls answer that are not refused: one struct for all of them.
 ghost use Rattle.std.specs.Prelude.{◌≡◌};
-ghost use Rattle.unit.specs.declared.reply.Turn.TheVariants.{Served};
-ghost use Rattle.unit.specs.Reply.{turn_number, nothing, refused, accepted, answered};
+ghost use Rattle.unit.specs.Reply.{turn_number, nothing, accepted, answered, answer_of, replied_of};
 
 use crate::mux::Mux;
 use interrupt::Service;
 
 // What an inspection served. Nothing: refused or stopped. Idle: a running turn that serves nothing, and still names its port.
+// Nothing is one of four answers, each with its number (turn_numbers), and so no None of an Option.
 #[derive(Clone, Copy)]
 pub enum Turn {
     Nothing,
@@ -19,15 +19,13 @@ pub enum Turn {
 pub struct Answer {
     pub turn: Turn,
     pub port: u32,
-    pub sent: bool,
-    pub byte: u8,
+    pub sent: Option<u8>,
     pub raised: bool,
 }
 
-// What a call answers: the refusal number or 0; the word of DIA and DIAS; an inspection's answer; the inspections that a sweep made and the list places that it used. What a call has not is 0 or "nothing".
+// What a call answers: the word of DIA and DIAS; an inspection's answer; the inspections that a sweep made and the list places that it used. What a call has not is 0 or "nothing".
 #[derive(Clone, Copy)]
 pub struct Reply {
-    pub code: u8,
     pub value: u16,
     pub answer: Answer,
     pub made: u32,
@@ -42,62 +40,39 @@ pub struct Replied {
 }
 
 // This paper's number for what was served.
-pub fn turn_number(t: Turn) -> u8
-    ensures { result ≡ turn_number t }
-{
-    match t {
-        Turn::Nothing => 0,
-        Turn::Idle => 1,
-        Turn::Served { service } => service_number(service),
-    }
-}
+impl From<Turn> for u8 {
+    ghost from_gives = { λ t n. n ≡ turn_number t };
 
-// The number of a service.
-fn service_number(s: Service) -> u8
-    ensures { result ≡ turn_number (Served s) }
-{
-    match s {
-        Service::Input => 2,
-        Service::Output => 3,
+    fn from(t: Turn) -> u8 {
+        match t {
+            Turn::Nothing => 0,
+            Turn::Idle => 1,
+            Turn::Served { service } => match service {
+                Service::Input => 2,
+                Service::Output => 3,
+            },
+        }
     }
 }
 
 // The answer "nothing".
 pub fn nothing() -> Answer
-    ensures { result ≡ nothing }
+    ensures { answer_of result ≡ nothing }
 {
     Answer {
         turn: Turn::Nothing,
         port: 0,
-        sent: false,
-        byte: 0,
+        sent: None,
         raised: false,
-    }
-}
-
-// A refusal: its number, no further result, the same record.
-pub fn refused(code: u8, u: Mux) -> Replied
-    ensures { result ≡ refused code u }
-{
-    Replied {
-        reply: Reply {
-            code,
-            value: 0,
-            answer: nothing(),
-            made: 0,
-            used: 0,
-        },
-        mux: u,
     }
 }
 
 // A call on the record alone that is not refused: the further result and the record.
 pub fn accepted(value: u16, u: Mux) -> Replied
-    ensures { result ≡ accepted value u }
+    ensures { replied_of u (Ok result) ≡ accepted value u }
 {
     Replied {
         reply: Reply {
-            code: 0,
             value,
             answer: nothing(),
             made: 0,
@@ -109,11 +84,10 @@ pub fn accepted(value: u16, u: Mux) -> Replied
 
 // An inspection that is not refused: its answer and the record.
 pub fn answered(answer: Answer, u: Mux) -> Replied
-    ensures { result ≡ answered answer u }
+    ensures { replied_of u (Ok result) ≡ answered (answer_of answer) u }
 {
     Replied {
         reply: Reply {
-            code: 0,
             value: 0,
             answer,
             made: 0,

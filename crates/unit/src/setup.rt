@@ -1,11 +1,12 @@
-// Setup: a new unit, or the number and the record of zeros.
+// Setup: a new unit, or its refusal. The record of zeros stands where there is no unit.
 ghost use Rattle.std.specs.Prelude.{◌≡◌};
 ghost use Rattle.unit.specs.Record.{no_character, no_port, fresh_port, no_setting, fresh, no_mux};
+ghost use Rattle.unit.specs.Reply.{replied_of};
 ghost use Rattle.unit.specs.Setup.{setup};
 
 use crate::mux::{Character, Mux, Port, Setting};
-use crate::refusal::setup_code;
-use crate::reply::{Replied, accepted, refused};
+use crate::refusal::{Refusal, setup_refusal};
+use crate::reply::{Replied, accepted};
 use interrupt::Kind;
 
 // No character: the fields where none is held.
@@ -38,10 +39,11 @@ fn no_port() -> Port
 fn fresh_port() -> Port
     ensures { result ≡ fresh_port }
 {
-    let mut q = no_port();
-    q.empty = true;
-    q.devcontrol = true;
-    q
+    Port {
+        empty: true,
+        devcontrol: true,
+        ..no_port()
+    }
 }
 
 // A setting of zeros, which is an EDS-8's.
@@ -86,12 +88,10 @@ fn fresh(s: Setting) -> Mux
 }
 
 // Setup.
-pub fn setup(s: Setting) -> Replied
-    ensures { result ≡ setup s }
+#[tactic(auto, using(crate::proofs::Found::refuses, crate::proofs::Found::takes), unfolding(crate::specs::Setup::setup))]
+pub fn setup(s: Setting) -> Result<Replied, Refusal>
+    ensures { replied_of no_mux result ≡ setup s }
 {
-    let code = setup_code(s);
-    if code != 0 {
-        return refused(code, no_mux());
-    }
-    accepted(0, fresh(s))
+    setup_refusal(s)?;
+    Ok(accepted(0, fresh(s)))
 }

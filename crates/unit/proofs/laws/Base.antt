@@ -12,7 +12,7 @@ use Rattle.ground.specs.laws.Rows.{never}
 use Rattle.interrupt.specs.declared.Kind.TheVariants.{Eds8}
 use Rattle.unit.specs.declared.mux.Setting.{Setting}
 use Rattle.unit.specs.declared.mux.Mux.{Mux}
-use Rattle.unit.specs.declared.reply.Replied.{Replied}
+use Rattle.unit.specs.Reply.{Replied}
 use Rattle.unit.specs.Record.{fresh, no_mux}
 use Rattle.unit.specs.Reply.{refused, accepted, guarded}
 use Rattle.unit.specs.Refusals.{TOO-HIGH, bad_block, bad_ports, misaligned, too_high, size_rows, area_rows, unsound, Given, refusal, of_setup}

@@ -8,7 +8,7 @@ use Rattle.std.specs.Prelude.{◌≡◌}
 use Rattle.std.proofs.Common.{ap}
 use Rattle.interrupt.specs.declared.Kind.TheVariants.{Eds8}
 use Rattle.unit.specs.declared.mux.Setting.{Setting}
-use Rattle.unit.specs.declared.reply.Replied.{Replied}
+use Rattle.unit.specs.Reply.{Replied}
 use Rattle.unit.specs.Refusals.{refusal, of_setup}
 use Rattle.unit.specs.Setup.{setup}
 use Rattle.unit.proofs.laws.Replies.{setup_accepted, setup_refused}

@@ -9,7 +9,7 @@ use Rattle.std.specs.Prelude.{◌≡◌, ℕ}
 use Rattle.std.proofs.Math.Decide.{ℕ_discrete}
 use Rattle.unit.specs.declared.mux.Setting.{Setting}
 use Rattle.unit.specs.declared.mux.Mux.{Mux}
-use Rattle.unit.specs.declared.reply.Replied.{Replied}
+use Rattle.unit.specs.Reply.{Replied}
 use Rattle.unit.specs.Record.{fresh, no_mux}
 use Rattle.unit.specs.Reply.{refused, accepted, guarded}
 use Rattle.unit.specs.Refusals.{refusal, of_setup}

@@ -11,7 +11,7 @@ use Rattle.std.proofs.Math.Decide.{ℕ_discrete}
 use Rattle.std.proofs.lemmas.List.{get_or-replicate}
 use Rattle.words.specs.Special.{special_in}
 use Rattle.unit.specs.declared.mux.Setting.{Setting}
-use Rattle.unit.specs.declared.reply.Replied.{Replied}
+use Rattle.unit.specs.Reply.{Replied}
 use Rattle.unit.specs.Refusals.{refusal, of_setup}
 use Rattle.unit.specs.Setup.{setup}
 use Rattle.unit.proofs.laws.Replies.{setup_accepted, setup_refused}

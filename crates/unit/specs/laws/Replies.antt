@@ -12,7 +12,7 @@ use Rattle.ground.specs.laws.Rows.{pick_true, pick-false}
 use Rattle.interrupt.specs.declared.Service.TheVariants.{Input, Output}
 use Rattle.unit.specs.declared.mux.Mux.{Mux}
 use Rattle.unit.specs.declared.reply.Turn.TheVariants.{Nothing, Idle, Served}
-use Rattle.unit.specs.declared.reply.Replied.{Replied}
+use Rattle.unit.specs.Reply.{Replied}
 use Rattle.unit.specs.Reply.{turn_number, refused, guarded}
 
 -- a stopped or refused inspection, a turn that serves nothing, input, output

@@ -11,7 +11,7 @@ use Rattle.std.proofs.Math.Option.{Option, some, none, map}
 use Rattle.ground.specs.Choose.{pick, asked}
 use Rattle.unit.specs.declared.mux.Setting.{Setting}
 use Rattle.unit.specs.declared.mux.Mux.{Mux}
-use Rattle.unit.specs.declared.reply.Replied.{Replied}
+use Rattle.unit.specs.Reply.{Replied}
 use Rattle.unit.specs.Reply.{refused, guarded}
 use Rattle.unit.specs.Refusals.{size_rows, base_rows, area_rows, setting_rows, unsound, Given, rows_of, call_rows, table_of, refusal}
 

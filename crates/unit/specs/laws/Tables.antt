@@ -14,7 +14,7 @@ use Rattle.interrupt.specs.declared.Kind.TheVariants.{Eds8}
 use Rattle.interrupt.specs.Interrupt as Interrupt
 use Rattle.unit.specs.declared.mux.Setting.{Setting}
 use Rattle.unit.specs.declared.mux.Mux.{Mux}
-use Rattle.unit.specs.declared.reply.Replied.{Replied}
+use Rattle.unit.specs.Reply.{Replied}
 use Rattle.unit.specs.Record.{fresh, no_mux}
 use Rattle.unit.specs.Reply.{accepted, guarded}
 use Rattle.unit.specs.Refusals.{UNSOUND, setting_rows, Given, call_rows, refusal, of_setup}

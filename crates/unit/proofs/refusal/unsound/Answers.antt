@@ -1,18 +1,16 @@
--- `unit::refusal::unsound` meets its contract, part by part.
-use mathlib.Core.Path.{refl, sym, ◌∙◌}
-use borrow.Author.Tests.{le-leb, lt-leb}
-use Rattle.unit.proofs.laws.Refusals.{setting_unsound, setting_passed}
+-- `unit::refusal::unsound` meets its contract: the three parts of row 6, by what was found of the setting.
+use Rattle.std.proofs.Common.{arith}
+use Rattle.std.proofs.lemmas.Grind.{common_steps}
+use Rattle.unit.proofs.Found.{unsound_by}
+use Rattle.unit.proofs.refusal.unsound.Goals.{then-is_err, else-is_err}
 use Rattle.unit.proofs.refusal.unsound.Goals as goal
 
-pub returns-then-setup_code-ne0 : goal.returns-then-setup_code-ne0
-returns-then-setup_code-ne0 c = sym (setting_unsound c.args.u (λ e. c.if-setup_code-ne0.true (c.setup_code.ensures ∙ e)))
+pub returns-then-u : goal.returns-then-u
+returns-then-u c =
+    let h = unsound_by c.args.u c.setup_refusal.result c.setup_refusal.ensures in
+    elim c.if-is_err.branch [ then-is_err w ↦ grind (arith, common_steps) | else-is_err w ↦ grind (arith, common_steps) ]
 
-pub returns-then-s-u : goal.returns-then-s-u
-returns-then-s-u c =
-    rw (setting_passed c.args.u (sym c.setup_code.ensures ∙ c.if-setup_code-ne0.false), le-leb _ _ c.if-s-u.true)
-    refl
-
-pub returns : goal.returns
-returns c =
-    rw (setting_passed c.args.u (sym c.setup_code.ensures ∙ c.if-setup_code-ne0.false), lt-leb _ _ c.if-s-u.false)
-    c.unsound.ensures
+pub returns-else-u : goal.returns-else-u
+returns-else-u c =
+    let h = unsound_by c.args.u c.setup_refusal.result c.setup_refusal.ensures in
+    elim c.if-is_err.branch [ then-is_err w ↦ grind (arith, common_steps) | else-is_err w ↦ grind (arith, common_steps) ]
