@@ -16,7 +16,7 @@ use Rattle.words.specs.Special.{special_in}
 use Rattle.unit.specs.declared.mux.Character.{Character}
 use Rattle.unit.specs.declared.mux.Port.{Port}
 use Rattle.unit.specs.Reply.{Serviced, serviced}
-use Rattle.input.specs.declared.plan.Plan.{Plan}
+use Rattle.input.specs.Plan.{Plan}
 
 -- overload, else break, else parity (only if control bit 8 is 0), else none
 unfoldable pub error_code : ℕ → Character → ℕ

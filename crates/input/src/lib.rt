@@ -5,12 +5,10 @@ pub mod icw;
 pub mod plan;
 pub mod steps;
 
-ghost use Rattle.std.specs.Prelude.{◌≡◌, ◌<◌, length};
-ghost use Rattle.ground.specs.Choose.{pick};
-ghost use Rattle.unit.specs.Reply.{serviced};
-ghost use Rattle.unit.specs.Refusals.{WORDS};
-ghost use Rattle.words.specs.Codes.{echoed_byte};
-ghost use Rattle.input.specs.Input.{carried, input_service, ascii};
+ghost use Rattle.std.specs.Prelude.{◌≡◌, ◌<◌};
+ghost use Rattle.unit.specs.Reply.{serviced, effect_of};
+ghost use Rattle.input.specs.Plan.{plan_of};
+ghost use Rattle.input.specs.Input.{carried, input_service};
 
 use crate::icw::{error_code, is_ascii};
 use crate::plan::Plan;
@@ -18,37 +16,32 @@ use crate::steps::input_plan;
 use unit::effect::Effect;
 use unit::mux::Port;
 use words::ascii::echoed_byte;
-use words::byte::{byte_if, word_if};
+use words::byte::{Memory, store};
 use words::codes::{IBP, ICW, LIB};
 use words::pointer::{at_end, step_ptr};
 use words::special::special_in;
 
-// 0 where nothing is echoed, so that services that do the same answer the same.
-fn echoed(echo: bool, icw: u16, c: u8) -> u8
-    ensures { result ≡ pick echo (echoed_byte (ascii icw) c) 0 }
-{
-    if echo {
-        return echoed_byte(is_ascii(icw), c);
-    }
-    0
-}
-
 // Document 01's order of stores: it settles what is left where a buffer lies on its own control words.
-fn carry(mem: &mut [u16], at: usize, next: u16, plan: Plan)
-    requires mem_len { length mem.old ≡ WORDS }
-    requires at_bound { at < 32761 }
-    ensures { mem.new ≡ carried plan at next mem.old }
+#[tactic(auto, unfolding(crate::specs::Input::carried, words::specs::Byte::word_if, words::specs::Byte::byte_if, ground::specs::Choose::pick))]
+fn carry(mem: &mut Memory, at: usize, next: u16, plan: Plan)
+    requires { at < 32761 }
+    ensures { mem.new ≡ carried (plan_of plan) at next mem.old }
 {
-    word_if(mem, plan.store, at + IBP, next);
-    byte_if(mem, plan.store, next, plan.byte);
-    word_if(mem, plan.write, at + ICW, plan.icw);
+    if let Some(byte) = plan.stored {
+        mem[at + IBP] = next;
+        store(mem, next, byte);
+    }
+    if let Some(icw) = plan.icw {
+        mem[at + ICW] = icw;
+    }
 }
 
 // The block starts at the word `at`; below 32761 its eight words lie in the memory, as `block_at` ensures. The set is the unit's own.
-pub fn service(mem: &mut [u16], at: usize, q: Port, codes: [bool; 128]) -> Effect
-    requires mem_len { length mem.old ≡ WORDS }
-    requires at_bound { at < 32761 }
-    ensures { serviced result mem.new ≡ input_service codes mem.old at q }
+// That bound stands in a clause, here, in `carry` and in output, and in no type: docs/CLAIMS.md names both services, which may take no type with an invariant.
+#[tactic(auto, using(crate::proofs::Stores::carried_planned), unfolding(crate::specs::Input::input_service, ground::specs::Choose::pick))]
+pub fn service(mem: &mut Memory, at: usize, q: Port, codes: [bool; 128]) -> Effect
+    requires { at < 32761 }
+    ensures { serviced (effect_of result) mem.new ≡ input_service codes mem.old at q }
 {
     let icw = mem[at + ICW];
     let ibp = mem[at + IBP];
@@ -64,8 +57,7 @@ pub fn service(mem: &mut [u16], at: usize, q: Port, codes: [bool; 128]) -> Effec
     );
     carry(mem, at, step_ptr(ibp), plan);
     Effect {
-        sent: plan.echo,
-        byte: echoed(plan.echo, icw, c),
+        sent: plan.echo.then_some(echoed_byte(is_ascii(icw), c)),
         raised: plan.raised,
         control: q.control,
         devcontrol: q.devcontrol,

@@ -15,7 +15,7 @@ use Rattle.words.specs.Byte.{byte_at, word_if}
 use Rattle.words.specs.Special.{special_in}
 use Rattle.unit.specs.declared.mux.Port.{Port}
 use Rattle.unit.specs.Reply.{Serviced, serviced}
-use Rattle.output.specs.declared.plan.Plan.{Plan}
+use Rattle.output.specs.Plan.{Plan}
 
 -- OUTDONE is set
 unfoldable pub out_done : ℕ → Bool

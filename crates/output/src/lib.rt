@@ -5,31 +5,32 @@ pub mod modes;
 pub mod ocw;
 pub mod plan;
 
-ghost use Rattle.std.specs.Prelude.{◌≡◌, ◌<◌, length};
-ghost use Rattle.unit.specs.Reply.{serviced};
-ghost use Rattle.unit.specs.Refusals.{WORDS};
+ghost use Rattle.std.specs.Prelude.{◌≡◌, ◌<◌};
+ghost use Rattle.unit.specs.Reply.{serviced, effect_of};
 ghost use Rattle.output.specs.Output.{output_service};
 
 use crate::modes::output_plan;
 use crate::ocw::{is_auto, is_done, written_ocw};
 use unit::effect::Effect;
 use unit::mux::Port;
-use words::byte::{fetch, word_if};
+use words::byte::{Memory, fetch};
 use words::codes::{LOB, OBP, OCW};
 use words::pointer::{at_end, step_ptr};
 use words::special::special_in;
 
 // The block starts at the word `at`; below 32761 its eight words lie in the memory, as `block_at` ensures. The set is the unit's own.
-pub fn service(mem: &mut [u16], at: usize, q: Port, codes: [bool; 128]) -> Effect
-    requires mem_len { length mem.old ≡ WORDS }
-    requires at_bound { at < 32761 }
-    ensures { serviced result mem.new ≡ output_service codes mem.old at q }
+#[tactic(auto, unfolding(crate::specs::Output::output_service, words::specs::Byte::word_if, ground::specs::Choose::pick))]
+pub fn service(mem: &mut Memory, at: usize, q: Port, codes: [bool; 128]) -> Effect
+    requires { at < 32761 }
+    ensures { serviced (effect_of result) mem.new ≡ output_service codes mem.old at q }
 {
     let ocw = mem[at + OCW];
     let obp = mem[at + OBP];
     let lob = mem[at + LOB];
     let next = step_ptr(obp);
-    word_if(mem, is_auto(ocw), at + OBP, next);
+    if is_auto(ocw) {
+        mem[at + OBP] = next;
+    }
     // Read in every mode; only the automatic plan uses it.
     let fetched = fetch(mem, next);
     let plan = output_plan(
@@ -43,7 +44,6 @@ pub fn service(mem: &mut [u16], at: usize, q: Port, codes: [bool; 128]) -> Effec
     mem[at + OCW] = written_ocw(ocw, q.devstatus, done);
     Effect {
         sent: plan.sent,
-        byte: plan.byte,
         raised: done,
         control: plan.control,
         devcontrol: plan.devcontrol,

@@ -1,14 +1,15 @@
 // What OCW says as it was read, and the word that is written last.
+#![tactic(auto, unfolding(ground::specs::Choose::pick, crate::specs::Output::out_done, crate::specs::Output::is_auto, crate::specs::Output::differs, crate::specs::Output::status_bits, crate::specs::Output::becomes_changed, crate::specs::Output::written_ocw))]
+
 ghost use Rattle.std.specs.Prelude.{◌≡◌, not, ◌&&◌, ◌||◌};
 ghost use Rattle.ground.specs.Choose.{pick, Below};
 ghost use Rattle.words.specs.Field.{get};
 ghost use Rattle.words.specs.Codes.{STATUS-CHANGED};
 ghost use Rattle.output.specs.Output.{out_done, is_auto, differs, status_bits, becomes_changed, written_ocw};
 
-use words::codes::{
-    DEVICE_STATUS, OUT_AUTO, OUTDONE, OUTMO, PREVIOUS_STATUS, STATUS_CHANGED, UNUSED,
-};
+use words::codes::{DEVICE_STATUS, OUTDONE, PREVIOUS_STATUS, STATUS_CHANGED, UNUSED};
 use words::field::{bit, get, is_set, put};
+use words::modes::{OutputMode, output_mode};
 
 // One reading of OUTDONE, for the plan, the pointer and the word written.
 pub fn out_done(ocw: u16) -> bool
@@ -21,16 +22,14 @@ pub fn out_done(ocw: u16) -> bool
 pub fn is_auto(ocw: u16) -> bool
     ensures { result ≡ is_auto ocw }
 {
-    let done = out_done(ocw);
-    !done & (get(ocw, OUTMO) == OUT_AUTO)
+    !out_done(ocw) && output_mode(ocw) == OutputMode::Auto
 }
 
 // The Device Status line against bit 4 as read: what OCW last had of it.
 fn differs(ocw: u16, line: bool) -> bool
     ensures { result ≡ differs ocw line }
 {
-    let same = get(ocw, DEVICE_STATUS) == bit(line);
-    !same
+    get(ocw, DEVICE_STATUS) != bit(line)
 }
 
 // Bit 7 as it is written: a change sets it, and only the host clears it.
@@ -56,16 +55,14 @@ fn status_bits(ocw: u16, line: bool) -> u16
 fn becomes_changed(ocw: u16, line: bool) -> bool
     ensures { result ≡ becomes_changed ocw line }
 {
-    let clear = get(ocw, STATUS_CHANGED) == 0;
-    clear & differs(ocw, line)
+    get(ocw, STATUS_CHANGED) == 0 && differs(ocw, line)
 }
 
 // OUTDONE as read shuts out a second interrupt; else the plan or a change of the line makes it done.
 pub fn is_done(ocw: u16, line: bool, planned: bool) -> bool
     ensures { result ≡ not (out_done ocw) && (planned || becomes_changed ocw line) }
 {
-    let already = out_done(ocw);
-    !already & (planned | becomes_changed(ocw, line))
+    !out_done(ocw) && (planned || becomes_changed(ocw, line))
 }
 
 // OUTDONE already set: only the status bits, for the rest still waits for the host. Else bit 6 is 0 and bit 0 says done.

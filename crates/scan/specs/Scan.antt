@@ -12,8 +12,7 @@ use Rattle.unit.specs.declared.mux.Mux.{Mux}
 use Rattle.unit.specs.Record.{port_at, remade}
 use Rattle.unit.specs.Reply.{nothing, refused, answered, Looked, looked}
 use Rattle.unit.specs.Refusals.{refusal, of_inspection}
-use Rattle.scan.specs.declared.turn.Turned.{Turned}
-use Rattle.scan.specs.Turn.{Turning, served_turn, turn}
+use Rattle.scan.specs.Turn.{Turned, Turning, served_turn, turn}
 
 -- the position one on: (position + 1) mod P
 unfoldable pub next_pos : Mux → ℕ

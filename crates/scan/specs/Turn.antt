@@ -1,5 +1,6 @@
 -- A turn of a port (document 01, one inspection): what it reads is the setting, the port's number, the port, the interrupt side and the
 -- memory; what it changes is the port, the interrupt side and the memory.
+--   Turned, turned_of     what a turn changes, and the same of what the code gives
 --   service               the service of either kind
 --   took_input, took_output, took   the port after it
 --   irq_after              the interrupt side after it
@@ -15,13 +16,22 @@ use Rattle.interrupt.specs.declared.Irq.{Irq}
 use Rattle.interrupt.specs.Interrupt.{raised}
 use Rattle.unit.specs.declared.mux.Setting.{Setting}
 use Rattle.unit.specs.declared.mux.Port.{Port}
-use Rattle.unit.specs.declared.effect.Effect.{Effect}
 use Rattle.unit.specs.declared.reply.Turn.TheVariants.{Idle, Served}
 use Rattle.unit.specs.Record.{no_character, block_at, address_at}
-use Rattle.unit.specs.Reply.{Serviced}
+use Rattle.unit.specs.Reply.{Answer, Effect, Serviced, answer_of}
 use Rattle.input.specs.Input.{input_service}
 use Rattle.output.specs.Output.{output_service}
-use Rattle.scan.specs.declared.turn.Turned.{Turned}
+use Rattle.scan.specs.declared.turn.Turned.{Turned as TurnedMade}
+
+-- what a turn changes: the answer, the port and the interrupt side after it
+pub record Turned : Type 0 where
+  pub answer : Answer
+  pub port : Port
+  pub irq : Irq
+
+-- the same of what the code gives: there a byte may be absent
+abbrev pub turned_of : TurnedMade → Turned
+turned_of t = record { answer = answer_of t.answer; port = t.port; irq = t.irq }
 
 -- the service of a port, whose control block starts at the word a, in a unit with that set of special codes
 unfoldable pub service : Service → List Bool → List ℕ → ℕ → Port → Serviced

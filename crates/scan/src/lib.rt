@@ -3,56 +3,40 @@
 
 pub mod turn;
 
-ghost use Rattle.std.specs.Prelude.{◌≡◌, length};
-ghost use Rattle.unit.specs.Reply.{looked};
-ghost use Rattle.unit.specs.Refusals.{WORDS};
+ghost use Rattle.std.specs.Prelude.{◌≡◌};
+ghost use Rattle.unit.specs.Reply.{looked, answered, answer_of, replied_of};
 ghost use Rattle.unit.specs.Sound.{Sound};
-ghost use Rattle.scan.specs.Scan.{moved, scanned, inspection};
+ghost use Rattle.scan.specs.Scan.{scanned, inspection};
 
-use crate::turn::{Turned, turn};
-use unit::mux::{Mux, port_at};
-use unit::refusal::inspect_code;
-use unit::reply::{Replied, answered, nothing, refused};
+use crate::turn::turn;
+use unit::mux::Mux;
+use unit::refusal::{Refusal, inspect_refusal};
+use unit::reply::{Answer, Replied, answered, nothing};
+use words::byte::{Memory, WORDS};
 
-// The record after a turn: the port in its place, the interrupt side, the position one on.
-pub fn moved(u: Mux, t: Turned) -> Mux
-    requires { Sound u }
-    ensures { result ≡ moved u t }
+// The turn of the port at the scan position, made of the parts that it reads; what it changes is put into the record, and the position is one on.
+#[tactic(auto, unfolding(crate::specs::Scan::scanned, crate::specs::Scan::next_pos, unit::specs::Record::port_at))]
+pub fn take_turn(u: &mut Mux, mem: &mut Memory) -> Answer
+    requires { Sound u.old }
+    ensures { looked (answered (answer_of result) u.new) mem.new ≡ scanned u.old mem.old }
 {
-    let s = u.setting;
     let at = u.pos as usize;
-    let q = t.port;
-    let i = t.irq;
-    let mut v = u;
-    v.port[at] = q;
-    v.irq = i;
-    v.pos = (u.pos + 1) % s.ports;
-    v
+    let t = turn(u.setting, u.pos, u.port[at], u.irq, mem);
+    u.port[at] = t.port;
+    u.irq = t.irq;
+    u.pos = (u.pos + 1) % u.setting.ports;
+    t.answer
 }
 
-// An inspection of a running unit: the turn is made of the parts that it reads, and what it changes is put into the record.
-fn scan(u: Mux, mem: &mut [u16]) -> Replied
-    requires sound { Sound u }
-    requires mem_len { length mem.old ≡ WORDS }
-    ensures { looked result mem.new ≡ scanned u mem.old }
+// One inspection: of a unit that runs it is a turn.
+#[tactic(auto, using(unit::proofs::Found::stops, unit::proofs::Found::passes, crate::proofs::Asked::sound, crate::proofs::Asked::whole), unfolding(crate::specs::Scan::inspection, ground::specs::Choose::pick))]
+pub fn inspect(mut u: Mux, mem: &mut [u16]) -> Result<Replied, Refusal>
+    ensures { looked (replied_of u result) mem.new ≡ inspection u mem.old }
 {
-    let s = u.setting;
-    let i = u.irq;
-    let q = port_at(u, u.pos);
-    let t = turn(s, u.pos, q, i, mem);
-    answered(t.answer, moved(u, t))
-}
-
-// One inspection.
-pub fn inspect(u: Mux, mem: &mut [u16]) -> Replied
-    ensures { looked result mem.new ≡ inspection u mem.old }
-{
-    let code = inspect_code(u, mem);
-    if code != 0 {
-        return refused(code, u);
+    inspect_refusal(u, mem)?;
+    if !u.runs {
+        return Ok(answered(nothing(), u));
     }
-    if u.runs {
-        return scan(u, mem);
-    }
-    answered(nothing(), u)
+    let answer = take_turn(&mut u, mem.as_mut_array::<WORDS>().unwrap());
+    Ok(answered(answer, u))
 }

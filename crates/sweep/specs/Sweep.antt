@@ -9,8 +9,8 @@
 use Rattle.std.specs.Prelude.{◌≡◌, List, ℕ, zero, suc, ◌+◌, ◌*◌, eqb, set}
 use Rattle.ground.specs.Choose.{pick, bit}
 use Rattle.unit.specs.declared.mux.Mux.{Mux}
-use Rattle.unit.specs.declared.reply.Answer.{Answer}
-use Rattle.unit.specs.declared.reply.Replied.{Replied}
+use Rattle.unit.specs.Reply.{Answer}
+use Rattle.unit.specs.Reply.{Replied}
 use Rattle.unit.specs.Reply.{nothing, refused, Looked, Outcome, outcome}
 use Rattle.unit.specs.Refusals.{refusal, of_sweep}
 use Rattle.scan.specs.Scan.{inspection}

@@ -1,69 +1,47 @@
 // A sweep: inspections one after the other, the bytes handed over gathered in a lent list.
 #![tactic(auto)]
 
-ghost use Rattle.std.specs.Prelude.{◌≡◌, ◌-◌, ◌<◌, ◌≤◌, length};
-ghost use Rattle.ground.specs.Choose.{pick};
-ghost use Rattle.unit.specs.Reply.{outcome};
-ghost use Rattle.unit.specs.Refusals.{WORDS, MOST-INSPECTIONS};
+ghost use Rattle.std.specs.Prelude.{◌≡◌, ◌+◌, ◌*◌, ◌<◌, ◌≤◌, true, length};
+ghost use Rattle.unit.specs.Reply.{outcome, answer_of, replied_of};
+ghost use Rattle.unit.specs.Refusals.{MOST-INSPECTIONS};
 ghost use Rattle.unit.specs.Sound.{Sound};
-ghost use Rattle.sweep.specs.Sweep.{entry_of, Entered, set_out, swept, arrived_at, sweep_from, sweep};
+ghost use Rattle.sweep.specs.Sweep.{Entered, set_out, swept, arrived_at, sweep_from, sweep};
 
-use scan::turn::turn;
+use scan::take_turn;
 use unit::mux::Mux;
-use unit::refusal::sweep_code;
-use unit::reply::{Answer, Replied, Reply, nothing, refused};
+use unit::refusal::{Refusal, sweep_refusal};
+use unit::reply::{Answer, Replied, Reply, nothing};
+use words::byte::{Memory, WORDS};
 
-// A byte handed over as the list has it: port·256 + byte.
-fn entry_of(a: Answer) -> u16
-    requires { a.port < 128 }
-    ensures { result ≡ entry_of a }
+// A byte handed over as the list has it.
+fn entry_of(port: u32, byte: u8) -> u16
+    requires { port < 128 }
+    ensures { result ≡ port * 256 + byte }
 {
-    (a.port * 256 + a.byte as u32) as u16
+    (port * 256 + byte as u32) as u16
 }
 
 // The list with what an inspection handed over in its next free place; how many places are used then.
+#[tactic(auto, unfolding(crate::specs::Sweep::entry_of, crate::specs::Sweep::entered, ground::specs::Choose::pick, ground::specs::Choose::bit))]
 fn enter(list: &mut [u16], used: u32, a: Answer) -> u32
     requires port_bound { a.port < 128 }
     requires used_in_bounds { used < length list.old }
     requires used_bound { used < 4096 }
-    ensures { Entered a used list.old result list.new }
+    ensures { Entered (answer_of a) used list.old result list.new }
 {
-    if a.sent {
-        let at = used as usize;
-        list[at] = entry_of(a);
+    if let Some(byte) = a.sent {
+        list[used as usize] = entry_of(a.port, byte);
         return used + 1;
     }
     used
 }
 
-// How many inspections are left to make at the start: a stopped unit makes none.
-fn at_first(runs: bool, n: u32) -> u32
-    ensures { result ≡ pick runs n 0 }
-{
-    if runs {
-        return n;
-    }
-    0
-}
-
-// How many are left after one more: none where it raised an interrupt.
-fn left_after(raised: bool, left: u32) -> u32
-    requires { 0 < left }
-    ensures { result ≡ pick raised 0 (left - 1) }
-{
-    if raised {
-        return 0;
-    }
-    left - 1
-}
-
 // What a sweep answers that is not refused.
 fn swept(made: u32, used: u32, u: Mux) -> Replied
-    ensures { result ≡ swept made used u }
+    ensures { replied_of u (Ok result) ≡ swept made used u }
 {
     Replied {
         reply: Reply {
-            code: 0,
             value: 0,
             answer: nothing(),
             made,
@@ -73,43 +51,33 @@ fn swept(made: u32, used: u32, u: Mux) -> Replied
     }
 }
 
-// As many inspections as the rule asks. Each turn is put into the one record that the loop holds, as `scan::moved` does.
-fn go(u: Mux, mem: &mut [u16], n: u32, list: &mut [u16]) -> Replied
+// As many inspections as the rule asks, of a unit that runs: one that raises an interrupt is the last.
+fn go(mut u: Mux, mem: &mut Memory, n: u32, list: &mut [u16]) -> Replied
     requires sound { Sound u }
-    requires mem_len { length mem.old ≡ WORDS }
+    requires running { u.runs ≡ true }
     requires n_bound { n ≤ MOST-INSPECTIONS }
     requires n_in_bounds { n ≤ length list.old }
-    ensures { outcome result mem.new list.new ≡ arrived_at (sweep_from n (set_out u mem.old list.old)) }
+    ensures { outcome (replied_of u (Ok result)) mem.new list.new ≡ arrived_at (sweep_from n (set_out u mem.old list.old)) }
 {
-    let mut v = u;
-    let mut made = 0;
     let mut used = 0;
-    let mut left = at_first(u.runs, n);
-    while 0 < left {
-        let s = v.setting;
-        let i = v.irq;
-        let at = v.pos as usize;
-        let q = v.port[at];
-        let t = turn(s, v.pos, q, i, mem);
-        let p = t.port;
-        let j = t.irq;
-        v.port[at] = p;
-        v.irq = j;
-        v.pos = (v.pos + 1) % s.ports;
-        made += 1;
-        used = enter(list, used, t.answer);
-        left = left_after(t.answer.raised, left);
+    for made in 0..n {
+        let answer = take_turn(&mut u, mem);
+        used = enter(list, used, answer);
+        if answer.raised {
+            return swept(made + 1, used, u);
+        }
     }
-    swept(made, used, v)
+    swept(n, used, u)
 }
 
-// A sweep of n inspections.
-pub fn sweep(u: Mux, mem: &mut [u16], n: u32, list: &mut [u16]) -> Replied
-    ensures { outcome result mem.new list.new ≡ sweep u mem.old n list.old }
+// A sweep of n inspections: a stopped unit makes none.
+#[tactic(auto, using(unit::proofs::Found::stops, unit::proofs::Found::passes, crate::proofs::Way::sound, crate::proofs::Way::whole, crate::proofs::Way::few, crate::proofs::Way::places, crate::proofs::Way::stands), unfolding(crate::specs::Sweep::sweep, ground::specs::Choose::pick))]
+pub fn sweep(u: Mux, mem: &mut [u16], n: u32, list: &mut [u16]) -> Result<Replied, Refusal>
+    ensures { outcome (replied_of u result) mem.new list.new ≡ sweep u mem.old n list.old }
 {
-    let code = sweep_code(u, mem, n, list);
-    if code != 0 {
-        return refused(code, u);
+    sweep_refusal(u, mem, n, list)?;
+    if !u.runs {
+        return Ok(swept(0, 0, u));
     }
-    go(u, mem, n, list)
+    Ok(go(u, mem.as_mut_array::<WORDS>().unwrap(), n, list))
 }

@@ -15,7 +15,7 @@ use Rattle.words.specs.Byte.{byte_at, word_if, byte_if}
 use Rattle.words.specs.laws.Byte.{length_word_if, other_word, other_word_of_byte, other_byte_of_word, read_word, read_byte}
 use Rattle.unit.specs.declared.mux.Port.{Port}
 use Rattle.unit.specs.laws.Sound.{Placed}
-use Rattle.input.specs.declared.plan.Plan.{Plan}
+use Rattle.input.specs.Plan.{Plan}
 use Rattle.input.specs.Input.{ascii, done_plan, stored_plan, carried, input_service}
 use Rattle.input.specs.laws.Word.{code_fits, done_done}
 use Rattle.input.specs.laws.Kept.{icw_of, code_of, plan_of, next_of, after}

@@ -21,7 +21,7 @@ use Rattle.words.specs.laws.Buffer.{Buffer, room, Steps, Serves, Follow, left, e
 use Rattle.words.specs.Byte.{half_at, byte_at}
 use Rattle.unit.specs.declared.mux.Port.{Port}
 use Rattle.unit.specs.laws.Sound.{Placed}
-use Rattle.input.specs.declared.plan.Plan.{Plan}
+use Rattle.input.specs.Plan.{Plan}
 use Rattle.input.specs.Input.{ascii, done_plan, stored_plan, input_service}
 use Rattle.input.specs.laws.Kept.{icw_of, last_of, next_of, after, kept_word}
 use Rattle.input.specs.laws.Automatic.{Filling, apart, busy_of, done_of, reported_plan, buffered_plan, automatic}

@@ -23,7 +23,7 @@ use Rattle.words.specs.Special.{special_in}
 use Rattle.words.specs.laws.Special.{seven_bits}
 use Rattle.unit.specs.declared.mux.Port.{Port}
 use Rattle.unit.specs.laws.Sound.{Placed}
-use Rattle.input.specs.declared.plan.Plan.{Plan}
+use Rattle.input.specs.Plan.{Plan}
 use Rattle.input.specs.Input.{ascii, replaced_plan, done_plan, input_plan, carried, input_service}
 use Rattle.input.specs.laws.Word.{code_fits, done_character, done_mark, done_flags, done_ascii, done_mode, done_overload, done_done, replaced_character, replaced_overload, replaced_flags, replaced_done}
 use Rattle.input.specs.laws.Kept.{icw_of, code_of, plan_of, next_of, after, kept_length, Unstored, indone_set, in_error, special_code}

@@ -12,7 +12,7 @@ use Rattle.words.specs.Codes.{at_icw, at_ibp, INDONE, INMO, in_none, in_single, 
 use Rattle.words.specs.Byte.{byte_at, word_if, byte_if}
 use Rattle.words.specs.laws.Byte.{other_word, other_byte, other_byte_of_word}
 use Rattle.unit.specs.declared.mux.Port.{Port}
-use Rattle.input.specs.declared.plan.Plan.{Plan}
+use Rattle.input.specs.Plan.{Plan}
 use Rattle.input.specs.Input.{ascii, input_plan, replaced_plan, done_plan, stored_plan, carried, input_service}
 use Rattle.input.specs.laws.Kept.{icw_of, plan_of, next_of, after, either, Unstored, plan_leaves}
 

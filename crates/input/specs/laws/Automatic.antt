@@ -17,7 +17,7 @@ use Rattle.words.specs.laws.Byte.{length_word_if, length_byte_if, read_word}
 use Rattle.words.specs.Special.{special_in}
 use Rattle.unit.specs.declared.mux.Port.{Port}
 use Rattle.unit.specs.laws.Sound.{Placed}
-use Rattle.input.specs.declared.plan.Plan.{Plan}
+use Rattle.input.specs.Plan.{Plan}
 use Rattle.input.specs.Input.{ascii, done_icw, done_plan, stored_plan, input_plan, carried, input_service}
 use Rattle.input.specs.laws.Kept.{icw_of, last_of, code_of, plan_of, next_of, after}
 

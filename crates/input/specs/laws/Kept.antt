@@ -17,7 +17,7 @@ use Rattle.words.specs.Byte.{word_if, byte_if}
 use Rattle.words.specs.laws.Byte.{length_word_if, length_byte_if, other_word, other_word_of_byte}
 use Rattle.words.specs.Special.{special_in}
 use Rattle.unit.specs.declared.mux.Port.{Port}
-use Rattle.input.specs.declared.plan.Plan.{Plan}
+use Rattle.input.specs.Plan.{Plan}
 use Rattle.input.specs.Input.{error_code, ascii, input_plan, replaced_plan, dropped_plan, done_plan, carried, input_service}
 
 -- ICW of the port whose block starts at the word a

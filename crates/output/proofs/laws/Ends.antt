@@ -20,7 +20,7 @@ use Rattle.words.specs.Byte.{half_at, byte_at}
 use Rattle.words.specs.laws.Byte.{other_word, read_word}
 use Rattle.words.specs.Special.{special_in}
 use Rattle.unit.specs.declared.mux.Port.{Port}
-use Rattle.output.specs.declared.plan.Plan.{Plan}
+use Rattle.output.specs.Plan.{Plan}
 use Rattle.output.specs.Output.{auto_plan, written_ocw, output_service, out_done, is_auto, becomes_changed}
 use Rattle.output.specs.laws.Kept.{stepped, after, kept_word}
 use Rattle.output.specs.laws.Modes.{planned_auto}

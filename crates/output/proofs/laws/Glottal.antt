@@ -16,7 +16,7 @@ use Rattle.words.specs.Codes.{OUTDONE, SPECIAL-REQUEST}
 use Rattle.words.specs.Special.{special_in}
 use Rattle.words.specs.laws.Special.{seven_bits}
 use Rattle.unit.specs.declared.mux.Port.{Port}
-use Rattle.output.specs.declared.plan.Plan.{Plan}
+use Rattle.output.specs.Plan.{Plan}
 use Rattle.output.specs.Output.{auto_plan, becomes_changed, output_service}
 use Rattle.output.specs.laws.Kept.{stepped}
 use Rattle.output.specs.laws.Modes.{planned_auto}

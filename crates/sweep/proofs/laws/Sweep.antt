@@ -12,7 +12,7 @@ use Rattle.std.proofs.Math.Decide.{ℕ_discrete}
 use Rattle.std.proofs.lemmas.List.Edits.{sets, sets-eq}
 use Rattle.ground.specs.Choose.{pick, bit}
 use Rattle.unit.specs.declared.mux.Mux.{Mux}
-use Rattle.unit.specs.declared.reply.Answer.{Answer}
+use Rattle.unit.specs.Reply.{Answer}
 use Rattle.unit.specs.Reply.{World, world, Looked}
 use Rattle.unit.specs.Refusals.{refusal, of_sweep}
 use Rattle.unit.specs.Sound.{Sound}

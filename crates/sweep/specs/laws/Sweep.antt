@@ -19,7 +19,7 @@ use Rattle.std.proofs.lemmas.List.Edits.{sets}
 use Rattle.ground.specs.Choose.{pick, bit}
 use Rattle.ground.specs.laws.Rows.{pick_true, pick-false}
 use Rattle.unit.specs.declared.mux.Mux.{Mux}
-use Rattle.unit.specs.declared.reply.Answer.{Answer}
+use Rattle.unit.specs.Reply.{Answer}
 use Rattle.unit.specs.declared.reply.Turn.TheVariants.{Nothing}
 use Rattle.unit.specs.Reply.{refused, World, world, Looked, Outcome, outcome}
 use Rattle.unit.specs.Refusals.{refusal, of_sweep}
