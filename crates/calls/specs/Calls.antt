@@ -12,7 +12,7 @@ use Rattle.std.specs.Prelude.{List, ℕ, eqb}
 use Rattle.ground.specs.Choose.{pick}
 use Rattle.unit.specs.declared.mux.Setting.{Setting}
 use Rattle.unit.specs.declared.mux.Mux.{Mux}
-use Rattle.unit.specs.declared.reply.Replied.{Replied}
+use Rattle.unit.specs.Reply.{Replied}
 use Rattle.unit.specs.Record.{no_setting}
 use Rattle.unit.specs.Reply.{World, Looked, looked, Outcome}
 use Rattle.unit.specs.Refusals.{Given, of_setup, of_unit, of_port, of_inspection, of_sweep}

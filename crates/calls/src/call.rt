@@ -23,7 +23,7 @@ pub enum What {
     Sweep { n: u32 },
 }
 
-// A call. The setting of a setup stands beside what is asked, since an enum cannot hold what grows arrays; every other call leaves it alone.
+// A call. The setting of a setup stands beside what is asked, and every other call leaves it alone: the laws of the door (`call_number`, `call_one`, `glottal_call`) speak of calls with any setting beside them, so no variant takes it in.
 #[derive(Clone, Copy)]
 pub struct Call {
     pub what: What,

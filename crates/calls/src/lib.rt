@@ -1,37 +1,24 @@
 // Everything that document 01 lets an emulator ask of the unit: one type of calls, one step. By value; the door above lends the record.
-#![tactic(auto)]
+#![tactic(auto, using(crate::proofs::SetUp::set_up_answers), unfolding(crate::specs::Calls::performed, crate::specs::Calls::step_of))]
 
 pub mod call;
 
 ghost use Rattle.std.specs.Prelude.{◌≡◌};
-ghost use Rattle.unit.specs.Reply.{world, looked, outcome};
-ghost use Rattle.unit.specs.Setup.{setup};
-ghost use Rattle.calls.specs.Calls.{set_up, performed, step};
+ghost use Rattle.unit.specs.Reply.{world, looked, outcome, replied_of};
+ghost use Rattle.calls.specs.Calls.{performed, step};
 
 use crate::call::{Act, Call, What};
 use lines::line;
 use scan::inspect;
 use sweep::sweep;
-use unit::mux::{Mux, Setting};
+use unit::mux::Mux;
+use unit::refusal::Refusal;
 use unit::reply::Replied;
 use unit::setup::setup;
 
-// Setup makes a new record and touches no old one: a refused one leaves the record that stands.
-fn set_up(u: Mux, s: Setting) -> Replied
-    ensures { result ≡ set_up u (setup s) }
-{
-    let r = setup(s);
-    if r.reply.code != 0 {
-        let mut kept = r;
-        kept.mux = u;
-        return kept;
-    }
-    r
-}
-
 // One thing asked of the unit that stands.
-fn apply(u: Mux, mem: &mut [u16], a: Act) -> Replied
-    ensures { looked result mem.new ≡ performed (world u mem.old) a }
+fn apply(u: Mux, mem: &mut [u16], a: Act) -> Result<Replied, Refusal>
+    ensures { looked (replied_of u result) mem.new ≡ performed (world u mem.old) a }
 {
     match a {
         Act::Line { port, signal } => line(u, port, signal),
@@ -40,14 +27,14 @@ fn apply(u: Mux, mem: &mut [u16], a: Act) -> Replied
     }
 }
 
-// One call.
-pub fn step(u: Mux, mem: &mut [u16], list: &mut [u16], c: Call) -> Replied
-    ensures { outcome result mem.new list.new ≡ step (world u mem.old) list.old c }
+// One call. Setup makes a new record and touches no old one: a refused one leaves the record that stands.
+pub fn step(u: Mux, mem: &mut [u16], list: &mut [u16], c: Call) -> Result<Replied, Refusal>
+    ensures { outcome (replied_of u result) mem.new list.new ≡ step (world u mem.old) list.old c }
 {
     let w = c.what;
     let s = c.setting;
     match w {
-        What::Setup => set_up(u, s),
+        What::Setup => setup(s),
         What::Do { act } => apply(u, mem, act),
         What::Sweep { n } => sweep(u, mem, n, list),
     }

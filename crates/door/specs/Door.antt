@@ -6,7 +6,7 @@
 -- Assumes nothing.
 use Rattle.std.specs.Prelude.{◌≡◌, List, [], ◌∷◌, ℕ}
 use Rattle.unit.specs.declared.mux.Mux.{Mux}
-use Rattle.unit.specs.declared.reply.Reply.{Reply}
+use Rattle.unit.specs.Reply.{Reply}
 use Rattle.unit.specs.Reply.{World, world, Outcome}
 use Rattle.calls.specs.declared.call.Call.{Call}
 use Rattle.calls.specs.Calls.{step}

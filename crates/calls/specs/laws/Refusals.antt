@@ -7,7 +7,7 @@
 use Rattle.std.specs.Prelude.{◌≡◌, refl, List, ℕ}
 use Rattle.std.proofs.Common.{sym, ◌∙◌, ap}
 use Rattle.unit.specs.declared.mux.Mux.{Mux}
-use Rattle.unit.specs.declared.reply.Replied.{Replied}
+use Rattle.unit.specs.Reply.{Replied}
 use Rattle.unit.specs.Reply.{refused, World, Looked, looked, Outcome, outcome}
 use Rattle.unit.specs.Refusals.{refusal, of_inspection}
 use Rattle.unit.specs.laws.Replies.{Answered}

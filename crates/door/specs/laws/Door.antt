@@ -3,18 +3,22 @@
 --   call_never_five        which is never 5 (document 02, K10)
 --   AsItWas, call_refused  a refusal leaves the lent record, the memory and the list as they were, and no further result
 --   Same, call_one         any two outcomes that the door's contract allows are equal
+--   call_one_made          and so is what the code answered
 --   made_run               after a list of calls made through the door the record and the memory are `run`'s
 --   made_split             and after each first part of it
 -- Not here: the case analysis of the calls, in laws/Refusals and laws/Outcomes of the crate calls.
 -- Assumes nothing.
-use Rattle.std.specs.Prelude.{◌≡◌, refl, List, [], ◌∷◌, ◌++◌, ℕ}
+use Rattle.std.specs.Prelude.{◌≡◌, refl, List, [], ◌∷◌, ◌++◌, ℕ, Result}
 use Rattle.std.proofs.Common.{sym, ◌∙◌, ap}
 use Rattle.ground.specs.Machine
 use Rattle.unit.specs.declared.mux.Mux.{Mux}
-use Rattle.unit.specs.declared.reply.Reply.{Reply}
-use Rattle.unit.specs.declared.reply.Replied.{Replied}
-use Rattle.unit.specs.Reply.{nothing, World, world, Outcome}
+use Rattle.unit.specs.declared.refusal.Refusal.{Refusal}
+use Rattle.unit.specs.declared.reply.Reply.{Reply as ReplyMade}
+use Rattle.unit.specs.Reply.{Reply}
+use Rattle.unit.specs.Reply.{Replied}
+use Rattle.unit.specs.Reply.{nothing, World, world, Outcome, reply_of}
 use Rattle.unit.specs.Refusals.{refusal}
+use Rattle.unit.specs.laws.Views.{reply_one}
 use Rattle.calls.specs.declared.call.Call.{Call}
 use Rattle.calls.specs.Calls.{given_of}
 use Rattle.calls.specs.Events.{Event, calls, host_writes, happens, run}
@@ -71,6 +75,15 @@ pub call_one :
 call_one u m xs c r s u₁ u₂ m₁ m₂ xs₁ xs₂ p q =
     let one = one_outcome.step_one (world u m) xs c (record { reply = r; mux = u₁ }) (record { reply = s; mux = u₂ }) m₁ m₂ xs₁ xs₂ p q in
     record { reply = ap (λ (x : Replied). x.reply) one.0; mux = ap (λ (x : Replied). x.mux) one.0; memory = one.1.0; list = one.1.1 }
+
+-- and what the code answered, a reply or a refusal, is one
+pub call_one_made :
+    (u : Mux) (m xs : List ℕ) (c : Call) (r s : Result ReplyMade Refusal) (u₁ u₂ : Mux) (m₁ m₂ xs₁ xs₂ : List ℕ) →
+    Meets (world u m) xs c (reply_of r) u₁ m₁ xs₁ →
+    Meets (world u m) xs c (reply_of s) u₂ m₂ xs₂ →
+    r ≡ s
+call_one_made u m xs c r s u₁ u₂ m₁ m₂ xs₁ xs₂ p q =
+    reply_one r s (call_one u m xs c (reply_of r) (reply_of s) u₁ u₂ m₁ m₂ xs₁ xs₂ p q).reply
 
 -- what stands after a list of calls made through the door, host writes between them, is what `run` gives
 pub made_run : {w v : World} {es : List Event} → Made w es v → v ≡ run w es

@@ -13,7 +13,7 @@ use Rattle.words.specs.Codes.{at_icw, flag_none}
 use Rattle.words.specs.Special.{special_in}
 use Rattle.unit.specs.declared.mux.Setting.{Setting}
 use Rattle.unit.specs.declared.mux.Mux.{Mux}
-use Rattle.unit.specs.declared.reply.Reply.{Reply}
+use Rattle.unit.specs.Reply.{Reply}
 use Rattle.unit.specs.Record.{block_at}
 use Rattle.unit.specs.Reply.{world, Looked, Outcome}
 use Rattle.unit.specs.Refusals.{refusal, of_sweep}

@@ -1,0 +1,2 @@
+-- What a refusal through the door leaves by value (ByValue).
+mod ByValue
