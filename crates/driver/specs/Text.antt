@@ -5,9 +5,11 @@
 --   typed                       the line with one more byte
 --   Turned                      what is known of a read where the text comes from outside
 --   Heard                       what some text leaves, each of its bytes taken in turn
+--   HeardFrom                   the same, of the text that a reader gave
 -- Not here: which orders there are, in FORMAT.md; the line that is printed, in Printed.
 -- Assumes nothing.
-use Rattle.std.specs.Prelude.{◌≡◌, Bool, false, ℕ, ◌+◌, ◌*◌, ◌%◌, ltb, set, replicate}
+use Rattle.std.specs.Prelude.{◌≡◌, Bool, false, Option, ℕ, ◌+◌, ◌*◌, ◌%◌, ltb, set, replicate}
+use Rattle.std.specs.Io.KnownBytes.{Consumes}
 use mathlib.Core.List.{List, foldl}
 use Rattle.ground.specs.Choose.{pick}
 use Rattle.driver.specs.declared.read.Line.{Line}
@@ -47,4 +49,10 @@ pub data Turned {A : Type 0} (on : A → List ℕ → A) (shut : A → A) (k j :
 -- some text was taken byte by byte from `first` on, and l is what it leaves
 pub record Heard {A : Type 0} (taken : A → ℕ → A) (first l : A) : Type 0 where
   pub text : List ℕ
+  pub line : l ≡ foldl taken first text
+
+-- the same, where the text is what a reader gave: what it had before, less what it has left
+pub record HeardFrom {A : Type 0} (had left : Option (List ℕ)) (taken : A → ℕ → A) (first l : A) : Type 0 where
+  pub text : List ℕ
+  pub bytes : Consumes had left text
   pub line : l ≡ foldl taken first text

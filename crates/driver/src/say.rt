@@ -1,9 +1,12 @@
 // The line that a driver prints: numbers with one space between them, a newline at the end.
-ghost use Rattle.std.specs.Prelude.{◌≡◌, [], ◌∷◌, ◌++◌, ◌+◌, ◌≤◌, ◌<◌, min, ltb, length, take};
+#![tactic(auto, unfolding(ground::specs::Choose::pick, crate::specs::Printed::and))]
+
+ghost use Rattle.std.specs.Prelude.{◌≡◌, [], ◌∷◌, ◌++◌, ◌+◌, ◌≤◌, ◌<◌, ltb, length, take};
 ghost use Rattle.ground.specs.Choose.{pick};
 ghost use Rattle.driver.specs.Printed.{nothing, and, decimal, line_of, line, Put};
 
 // The numbers to print, and how many they are.
+// It stays an array with its length: specs/Printed names both, a Vec can run out of memory where `and` cannot fail, and an ArrayVec is not Copy.
 #[derive(Clone, Copy)]
 pub struct Said {
     pub n: [u64; 10],
@@ -26,9 +29,8 @@ pub fn and(s: Said, x: u64) -> Said
 {
     let mut r = s;
     if s.count < 10 {
-        let at = s.count as usize;
-        r.n[at] = x;
-        r.count = s.count + 1;
+        r.n[s.count as usize] = x;
+        r.count += 1;
     }
     r
 }
@@ -38,13 +40,10 @@ fn put(digits: &[u8], last: u8, text: &mut [u8], at: usize) -> usize
     requires { at + length digits.now < length text.old }
     ensures { Put (digits.now ++ (last ∷ [])) text.old at result text.new }
 {
-    let mut i = 0;
-    while i < digits.len() {
-        text[at + i] = digits[i];
-        i += 1;
-    }
-    text[at + i] = last;
-    at + i + 1
+    let end = at + digits.len();
+    text[at..end].copy_from_slice(digits);
+    text[end] = last;
+    end + 1
 }
 
 // One number and one byte after it put into the text from a place on; the place after them. No number has more than twenty digits.
@@ -62,33 +61,18 @@ fn mark(i: usize, most: usize) -> u8
     requires { i < most }
     ensures { result ≡ pick (ltb (i + 1) most) 32 10 }
 {
-    if i + 1 < most {
-        return 32;
-    }
-    10
+    if i + 1 < most { b' ' } else { b'\n' }
 }
 
-// A count of numbers, at most ten.
-fn lesser(count: u32) -> usize
-    ensures { result ≡ min count 10 }
-{
-    if count < 10 {
-        return count as usize;
-    }
-    10
-}
-
-// The numbers of a line put into the text; how many bytes they take.
+// The numbers of a line, at most ten, put into the text; how many bytes they take.
 fn spell_all(text: &mut [u8], n: [u64; 10], count: u32) -> usize
     requires { 210 ≤ length text.old }
     ensures { Put (line_of (take count n)) text.old 0 result text.new }
 {
-    let most = lesser(count);
+    let most = (count as usize).min(10);
     let mut at = 0;
-    let mut i = 0;
-    while i < most {
-        at = spell(n[i], mark(i, most), text, at);
-        i += 1;
+    for (i, x) in n[..most].iter().enumerate() {
+        at = spell(*x, mark(i, most), text, at);
     }
     at
 }
@@ -98,11 +82,11 @@ fn line_in(text: &mut [u8], s: Said) -> usize
     requires { 210 ≤ length text.old }
     ensures { Put (line s) text.old 0 result text.new }
 {
-    let n = s.n;
-    spell_all(text, n, s.count)
+    spell_all(text, s.n, s.count)
 }
 
 // Prints the line.
+// It stays without std's printing, which needs a handle: a type that asks for one asks more of its callers.
 pub fn print(s: Said) {
     let mut text = io::buffer();
     let end = line_in(&mut text, s);

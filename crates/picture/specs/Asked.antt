@@ -1,12 +1,12 @@
 -- What a line asks for: data bits, parity, stop cells and a character, its first four numbers (D69).
 -- Not here: how a line is read, in Text of the crate driver; forms by number, in framing.
 -- Assumes nothing.
-use Rattle.std.specs.Prelude.{Bool, true, false, ◌&&◌, List, ℕ, ◌+◌, ◌-◌, ◌*◌, ◌<◌, ltb, get_or}
+use Rattle.std.specs.Prelude.{Bool, true, false, Option, None, Some, ◌&&◌, List, ℕ, ◌+◌, ◌-◌, ◌*◌, ◌<◌, ltb, get_or}
 use Rattle.ground.specs.Choose.{pick}
 use Rattle.framing.specs.declared.form.Form.{Form}
 use Rattle.framing.specs.Number.{form_numbered}
 use Rattle.driver.specs.declared.read.Line.{Line}
-use Rattle.picture.specs.declared.asked.Asked.{Asked}
+use Rattle.picture.specs.declared.asked.Asked.{Asked as AskedMade}
 
 -- number i of the line
 abbrev pub nth : List ℕ → ℕ → ℕ
@@ -31,8 +31,19 @@ abbrev pub form_of : ℕ → ℕ → ℕ → Form
 form_of bits parity stops = form_numbered (bits - 5 + 4 * parity + 12 * (stops - 2))
 
 -- whether there is a frame to draw, its form and its character
+pub record Asked : Type 0 where
+  pub good : Bool
+  pub form : Form
+  pub c : ℕ
+
+-- what a line asks for
 unfoldable pub asked_for : Line → Asked
 asked_for l =
     pick (drawable l.n l.count)
     (record { good = true; form = form_of (nth l.n 0) (nth l.n 1) (nth l.n 2); c = nth l.n 3 })
     (record { good = false; form = form_numbered 0; c = 0 })
+
+-- what the code says of it: there is no form and no character where there is no frame
+abbrev pub asked_of : Option AskedMade → Asked
+asked_of None = record { good = false; form = form_numbered 0; c = 0 }
+asked_of (Some a) = record { good = true; form = a.form; c = a.c }

@@ -1,9 +1,12 @@
 // The rows of a picture, a character for each cell: where the line is at one level, and which bit each cell is of.
+#![tactic(auto, unfolding(ground::specs::Choose::pick, crate::specs::Draw::stroke, crate::specs::Draw::letter_of, crate::specs::Draw::letter, crate::specs::Draw::drawn_at))]
+
 ghost use Rattle.std.specs.Prelude.{◌≡◌};
 ghost use Rattle.picture.specs.Draw.{stroke, letter_of, letter, drawn_at, drawn};
 
 use framing::cells::frame_cell;
-use framing::form::{Form, data_bits, first_stop};
+use framing::form::Form;
+use std::array;
 
 // The three rows: where the line is at mark, where it is at space, and which bit each cell is of.
 #[derive(Clone, Copy)]
@@ -17,10 +20,7 @@ pub enum Row {
 fn stroke(cell: u8, level: u8) -> u8
     ensures { result ≡ stroke level cell }
 {
-    if cell == level {
-        return b'-';
-    }
-    b' '
+    if cell == level { b'-' } else { b' ' }
 }
 
 // The letter of a baud: S start, a data bit's number, P parity, T stop.
@@ -30,10 +30,10 @@ fn letter_of(f: Form, j: u32) -> u8
     if j == 0 {
         return b'S';
     }
-    if j <= data_bits(f) {
+    if j <= f.data_bits() {
         return b'0' + (j - 1) as u8;
     }
-    if j < first_stop(f) {
+    if j < f.first_stop() {
         return b'P';
     }
     b'T'
@@ -44,9 +44,10 @@ fn letter(f: Form, i: u32) -> u8
     ensures { result ≡ letter f i }
 {
     if i % 2 == 0 {
-        return letter_of(f, i / 2);
+        letter_of(f, i / 2)
+    } else {
+        b' '
     }
-    b' '
 }
 
 // What a row has for a cell.
@@ -64,12 +65,5 @@ fn drawn_at(f: Form, c: u8, which: Row, i: u32) -> u8
 pub fn drawn(f: Form, c: u8, which: Row) -> [u8; 24]
     ensures { result ≡ drawn f c which }
 {
-    let mut cells = [0u8; 24];
-    let mut i = 0u32;
-    while i < 24 {
-        let at = i as usize;
-        cells[at] = drawn_at(f, c, which, i);
-        i += 1;
-    }
-    cells
+    array::from_fn(|i| drawn_at(f, c, which, i as u32))
 }

@@ -1,73 +1,68 @@
 // The picture, printed: a line that says what it is, the marks, the spaces, and the letters below them.
 use crate::asked::Asked;
 use crate::draw::{Row, drawn};
-use framing::form::{Form, Parity, Stops, data_bits, frame_cells};
-use io::{print_decimal, write_all};
+use framing::form::{Form, Parity, Stops};
+use std::fmt;
+
+// What a line that asks for no frame is answered.
+pub const ASK: &str =
+    "please type data bits (5 to 8), parity (0 none, 1 odd, 2 even), stop cells (2, 3 or 4) and a character (0 to 255)";
 
 // The parity, in words.
-fn say_parity(f: Form) {
-    let parity = f.parity;
+fn parity_words(parity: Parity) -> &'static str {
     match parity {
-        Parity::Inhibited => {
-            write_all(1, b" bits, no parity, ");
-        }
-        Parity::Odd => {
-            write_all(1, b" bits, odd parity, ");
-        }
-        Parity::Even => {
-            write_all(1, b" bits, even parity, ");
-        }
+        Parity::Inhibited => "no parity",
+        Parity::Odd => "odd parity",
+        Parity::Even => "even parity",
     }
 }
 
 // The stop, in words.
-fn say_stops(f: Form) {
-    let stops = f.stops;
+fn stop_words(stops: Stops) -> &'static str {
     match stops {
-        Stops::One => {
-            write_all(1, b"1 stop\n");
-        }
-        Stops::OneAndHalf => {
-            write_all(1, b"1.5 stops\n");
-        }
-        Stops::Two => {
-            write_all(1, b"2 stops\n");
-        }
+        Stops::One => "1 stop",
+        Stops::OneAndHalf => "1.5 stops",
+        Stops::Two => "2 stops",
     }
 }
 
-// As much of a row as the frame has cells.
-fn say_row(f: Form, c: u8, which: Row) {
-    let cells = drawn(f, c, which);
-    let n = frame_cells(f) as usize;
-    write_all(1, &cells[..n]);
-    write_all(1, b"\n");
+// A row of a frame's picture.
+#[derive(Clone, Copy)]
+struct Drawn {
+    form: Form,
+    c: u8,
+    which: Row,
+}
+
+// As much of the row as the frame has cells.
+impl fmt::Display for Drawn {
+    fn fmt<W: fmt::Write>(&self, f: &mut fmt::Formatter<W>) -> fmt::Result {
+        let cells = drawn(self.form, self.c, self.which);
+        let n = self.form.frame_cells() as usize;
+        for b in &cells[..n] {
+            f.write_char(char::from(*b))?;
+        }
+        Ok(())
+    }
 }
 
 // The picture of a frame.
-fn say_frame(f: Form, c: u8) {
-    print_decimal(1, c as u64);
-    write_all(1, b" in ");
-    print_decimal(1, data_bits(f) as u64);
-    say_parity(f);
-    say_stops(f);
-    write_all(1, b"mark  ");
-    say_row(f, c, Row::Marks);
-    write_all(1, b"space ");
-    say_row(f, c, Row::Spaces);
-    write_all(1, b"      ");
-    say_row(f, c, Row::Letters);
-}
-
-// The answer to a line.
-pub fn say(a: Asked) {
-    if a.good {
-        let f = a.form;
-        say_frame(f, a.c);
-        return;
+impl fmt::Display for Asked {
+    fn fmt<W: fmt::Write>(&self, f: &mut fmt::Formatter<W>) -> fmt::Result {
+        let Asked { form, c } = *self;
+        let parity = parity_words(form.parity);
+        let stop = stop_words(form.stops);
+        let row = |which| Drawn { form, c, which };
+        write!(
+            f,
+            "{} in {} bits, {}, {}\n",
+            c,
+            form.data_bits(),
+            parity,
+            stop
+        )?;
+        write!(f, "mark  {}\n", row(Row::Marks))?;
+        write!(f, "space {}\n", row(Row::Spaces))?;
+        write!(f, "      {}", row(Row::Letters))
     }
-    write_all(
-        1,
-        b"please type data bits (5 to 8), parity (0 none, 1 odd, 2 even), stop cells (2, 3 or 4) and a character (0 to 255)\n",
-    );
 }

@@ -1,4 +1,6 @@
 // What a caretaker is told to type instead of a setting that setup refuses.
+#![tactic(auto, unfolding(ground::specs::Choose::pick, unit::specs::Refusals::too_high, crate::specs::Advice::block_mended, crate::specs::Advice::ports_mended, crate::specs::Advice::sizes_mended, crate::specs::Advice::in_memory, crate::specs::Advice::step_of, crate::specs::Advice::base_mended, crate::specs::Advice::advised))]
+
 ghost use Rattle.std.specs.Prelude.{◌≡◌, ◌<◌, ◌≤◌};
 ghost use Rattle.ground.specs.Choose.{Below};
 ghost use Rattle.unit.specs.Sound.{SizeFits};
@@ -6,15 +8,14 @@ ghost use Rattle.settings.specs.Advice.{block_mended, ports_mended, sizes_mended
 
 use interrupt::Kind;
 use unit::mux::Setting;
-use unit::refusal::{AREA_STEP, MOST_PORTS, too_high};
+use unit::refusal::{AREA_STEP, MOST_PORTS};
 
 // The block size, or 32, as delivered.
 fn block_mended(b: u32) -> u32
     ensures { result ≡ block_mended b }
 {
     match b {
-        8 => 8,
-        16 => 16,
+        8 | 16 => b,
         _ => 32,
     }
 }
@@ -23,33 +24,25 @@ fn block_mended(b: u32) -> u32
 fn ports_mended(n: u32) -> u32
     ensures { result ≡ ports_mended n }
 {
-    if n == 0 {
-        return 1;
-    }
-    if MOST_PORTS < n {
-        return MOST_PORTS;
-    }
-    n
+    n.clamp(1, MOST_PORTS)
 }
 
 // The setting with both sizes mended.
 fn sizes_mended(s: Setting) -> Setting
     ensures { result ≡ sizes_mended s }
 {
-    let mut r = s;
-    r.block = block_mended(s.block);
-    r.ports = ports_mended(s.ports);
-    r
+    Setting {
+        block: block_mended(s.block),
+        ports: ports_mended(s.ports),
+        ..s
+    }
 }
 
 // A base, or the last word of the memory where it is above that.
 fn in_memory(a: u32) -> u32
     ensures { Below 32768 (in_memory a) result }
 {
-    if too_high(a) {
-        return 32767;
-    }
-    a
+    a.min(32767)
 }
 
 // The last multiple of m at or below a.
@@ -86,15 +79,11 @@ fn base_mended(s: Setting) -> u32
     requires { SizeFits s }
     ensures { result ≡ base_mended (step_of s.kind s.block) s.block s.ports s.base }
 {
-    let k = s.kind;
-    let step = step_of(k, s.block);
+    let step = step_of(s.kind, s.block);
     let a = in_memory(s.base);
     let near = multiple_below(a, step);
     let last = last_base(s, step, a);
-    if near < last {
-        return near;
-    }
-    last
+    near.min(last)
 }
 
 // A setting that setup takes: the sizes mended where they must be, and the base lowered as far as it must be.
@@ -102,7 +91,8 @@ pub fn advised(s: Setting) -> Setting
     ensures { result ≡ advised s }
 {
     let sized = sizes_mended(s);
-    let mut r = sized;
-    r.base = base_mended(sized);
-    r
+    Setting {
+        base: base_mended(sized),
+        ..sized
+    }
 }

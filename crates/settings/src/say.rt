@@ -1,107 +1,85 @@
 // What a caretaker is answered: setup's word on the setting, the sentence for its number, and what to type instead.
-ghost use Rattle.std.specs.Prelude.{◌≡◌};
-ghost use Rattle.settings.specs.Answer.{answer_to};
+ghost use Rattle.settings.specs.Answer.{Says, answer_to};
 
 use crate::advice::advised;
 use crate::typed::{Line, setting_of, whole};
 use interrupt::Kind;
-use io::{print_decimal, write_all};
+use std::fmt;
 use unit::mux::Setting;
-use unit::refusal::setup_code;
+use unit::refusal::{Refusal, setup_refusal};
 
-// Whether the line was three numbers, with or without the m; then setup's number for them, and what to type instead.
+// The answer to a line: that it was not three numbers, with or without the m; or what setup says of them, and what to type instead of what it refuses.
 #[derive(Clone, Copy)]
-pub struct Answer {
-    pub whole: bool,
-    pub code: u8,
-    pub instead: Setting,
+pub enum Answer {
+    NotWhole,
+    Accepted,
+    Refused { refusal: Refusal, instead: Setting },
 }
 
 // The answer to a line.
 pub fn answered(t: Line) -> Answer
-    ensures { result ≡ answer_to t }
+    ensures { Says result (answer_to t) }
 {
-    let s = setting_of(t);
-    Answer {
-        whole: whole(t),
-        code: setup_code(s),
-        instead: advised(s),
+    if !whole(t) {
+        return Answer::NotWhole;
+    }
+    let setting = setting_of(t);
+    match setup_refusal(setting) {
+        Ok(()) => Answer::Accepted,
+        Err(refusal) => Answer::Refused {
+            refusal,
+            instead: advised(setting),
+        },
     }
 }
 
-// The sentence for a number, as docs/CARETAKER.md has it.
-fn say_sentence(code: u8) {
-    match code {
-        1 => {
-            write_all(1, b"the block size is not 8, 16 or 32\n");
+// The sentence for a refusal, as docs/CARETAKER.md has it.
+fn sentence(refusal: Refusal) -> &'static str {
+    match refusal {
+        Refusal::BadBlock => "the block size is not 8, 16 or 32",
+        Refusal::BadPorts => "the number of ports is 0, or above 128",
+        Refusal::Misaligned => "the base is not a multiple of 8 times the block size",
+        Refusal::TooHigh => "the base is above 32767, the last word of the memory",
+        Refusal::BadLocation => {
+            "the base is not a multiple of 256, which is octal 400, as a Mighty Mux needs"
         }
-        2 => {
-            write_all(1, b"the number of ports is 0, or above 128\n");
-        }
-        3 => {
-            write_all(1, b"the base is not a multiple of 8 times the block size\n");
-        }
-        11 => {
-            write_all(1, b"the base is above 32767, the last word of the memory\n");
-        }
-        12 => {
-            write_all(
-                1,
-                b"the base is not a multiple of 256, which is octal 400, as a Mighty Mux needs\n",
-            );
-        }
-        4 => {
-            write_all(
-                1,
-                b"the control area crosses a multiple of 128 times the block size\n",
-            );
-        }
-        _ => {
-            write_all(1, b"no sentence is known for this number\n");
-        }
+        Refusal::Crosses => "the control area crosses a multiple of 128 times the block size",
+        _ => "no sentence is known for this number",
     }
 }
 
 // A setting, as a caretaker types it.
-fn say_setting(s: Setting) {
-    print_decimal(1, s.block as u64);
-    write_all(1, b" ");
-    print_decimal(1, s.ports as u64);
-    write_all(1, b" ");
-    print_decimal(1, s.base as u64);
-    let k = s.kind;
-    match k {
-        Kind::Eds8 => {
-            write_all(1, b"\n");
-        }
-        Kind::MightyMux => {
-            write_all(1, b" m\n");
-        }
+#[derive(Clone, Copy)]
+struct AsTyped(Setting);
+
+// Three numbers, and an m of a Mighty Mux.
+impl fmt::Display for AsTyped {
+    fn fmt<W: fmt::Write>(&self, f: &mut fmt::Formatter<W>) -> fmt::Result {
+        let AsTyped(s) = *self;
+        let mark = match s.kind {
+            Kind::Eds8 => "",
+            Kind::MightyMux => " m",
+        };
+        write!(f, "{} {} {}{}", s.block, s.ports, s.base, mark)
     }
 }
 
-// A refusal: its number, its sentence, and what to type instead.
-fn say_refused(code: u8, instead: Setting) {
-    write_all(1, b"refused, ");
-    print_decimal(1, code as u64);
-    write_all(1, b": ");
-    say_sentence(code);
-    write_all(1, b"type instead: ");
-    say_setting(instead);
-}
-
-// The answer, printed.
-pub fn say(a: Answer) {
-    if !a.whole {
-        write_all(
-            1,
-            b"please type three decimal numbers below 4294967296: block size, ports, base; then m for a Mighty Mux\n",
-        );
-        return;
+// The answer in words; of a refusal its number, its sentence, and what to type instead.
+impl fmt::Display for Answer {
+    fn fmt<W: fmt::Write>(&self, f: &mut fmt::Formatter<W>) -> fmt::Result {
+        match *self {
+            Answer::NotWhole => write!(
+                f,
+                "please type three decimal numbers below 4294967296: block size, ports, base; then m for a Mighty Mux"
+            ),
+            Answer::Accepted => write!(f, "accepted"),
+            Answer::Refused { refusal, instead } => write!(
+                f,
+                "refused, {}: {}\ntype instead: {}",
+                u8::from(refusal),
+                sentence(refusal),
+                AsTyped(instead)
+            ),
+        }
     }
-    if a.code == 0 {
-        write_all(1, b"accepted\n");
-        return;
-    }
-    say_refused(a.code, a.instead);
 }

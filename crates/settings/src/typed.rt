@@ -1,13 +1,16 @@
 // The line that a caretaker types: three decimal numbers with spaces between them, and an m after them for a Mighty Mux, read byte by byte.
-ghost use Rattle.std.specs.Prelude.{◌≡◌};
-ghost use Rattle.settings.specs.Typed.{blank, begun, extended, digit_typed, is_space, spaced, lettered, typed, started, whole, kind_of, setting_of};
+#![tactic(auto, unfolding(ground::specs::Choose::pick, driver::specs::Text::is_digit, crate::specs::Typed::begun, crate::specs::Typed::extended, crate::specs::Typed::digit_typed, crate::specs::Typed::typed, crate::specs::Typed::kind_of))]
 
-use driver::read::{appended, is_digit};
+ghost use Rattle.std.specs.Prelude.{◌≡◌};
+ghost use Rattle.settings.specs.Typed.{blank, begun, extended, digit_typed, is_space, spaced, lettered, typed, started, whole, setting_of};
+
+use driver::read::appended;
 use interrupt::Kind;
 use unit::mux::Setting;
 use words::special::set_1974;
 
 // What is read of a line so far: its last three numbers, how many it has up to three, whether the last may go on, whether the m is there, and whether anything on it is wrong.
+// The three bools stay: each is a fact of the text that has no value beside it, and line_read and line_mighty speak of a line that has all three.
 #[derive(Clone, Copy)]
 pub struct Line {
     pub block: u32,
@@ -38,17 +41,16 @@ pub fn blank() -> Line
 fn begun(t: Line, b: u8) -> Line
     ensures { result ≡ begun t b }
 {
-    let mut r = t;
-    r.block = t.ports;
-    r.ports = t.base;
-    r.base = (b % 16) as u32;
-    r.inside = true;
-    if t.count < 3 {
-        r.count = t.count + 1;
-        return r;
+    let fourth = t.count >= 3;
+    Line {
+        block: t.ports,
+        ports: t.base,
+        base: u32::from(b % 16),
+        count: if fourth { t.count } else { t.count + 1 },
+        inside: true,
+        wrong: fourth | t.wrong,
+        ..t
     }
-    r.wrong = true;
-    r
 }
 
 // The number has one more digit; from 2^32 on it is wrong.
@@ -56,10 +58,11 @@ fn extended(t: Line, b: u8) -> Line
     ensures { result ≡ extended t b }
 {
     let number = appended(t.base, b);
-    let mut r = t;
-    r.base = (number % 4294967296) as u32;
-    r.wrong = t.wrong | (4294967295 < number);
-    r
+    Line {
+        base: (number % 4294967296) as u32,
+        wrong: t.wrong | (4294967295 < number),
+        ..t
+    }
 }
 
 // A digit, of a number that goes on or of a new one.
@@ -67,50 +70,51 @@ fn digit_typed(t: Line, b: u8) -> Line
     ensures { result ≡ digit_typed t b }
 {
     if t.inside {
-        return extended(t, b);
+        extended(t, b)
+    } else {
+        begun(t, b)
     }
-    begun(t, b)
 }
 
 // Whether the byte may stand between two numbers: a space, a tab, or the carriage return that some systems put at the end of a line.
 fn is_space(b: u8) -> bool
     ensures { result ≡ is_space b }
 {
-    (b == 32) | (b == 9) | (b == 13)
+    matches!(b, b' ' | b'\t' | b'\r')
 }
 
 // A byte that is no digit ends the number; but for a space it is wrong.
 fn spaced(t: Line, b: u8) -> Line
     ensures { result ≡ spaced t b }
 {
-    let mut r = t;
-    r.inside = false;
-    r.wrong = t.wrong | !is_space(b);
-    r
+    Line {
+        inside: false,
+        wrong: t.wrong | !is_space(b),
+        ..t
+    }
 }
 
 // The letter m, which ends the third number; anywhere else, or once more, it is wrong.
 fn lettered(t: Line) -> Line
     ensures { result ≡ lettered t }
 {
-    let mut r = t;
-    r.inside = false;
-    r.mighty = true;
-    r.wrong = t.wrong | t.mighty | (t.count != 3);
-    r
+    Line {
+        inside: false,
+        mighty: true,
+        wrong: t.wrong | t.mighty | (t.count != 3),
+        ..t
+    }
 }
 
 // The line with one more byte.
 pub fn typed(t: Line, b: u8) -> Line
     ensures { result ≡ typed t b }
 {
-    if is_digit(b) {
-        return digit_typed(t, b);
+    match b {
+        b'0'..=b'9' => digit_typed(t, b),
+        b'm' => lettered(t),
+        _ => spaced(t, b),
     }
-    if b == b'm' {
-        return lettered(t);
-    }
-    spaced(t, b)
 }
 
 // Whether anything but spaces is on the line.
@@ -127,22 +131,16 @@ pub fn whole(t: Line) -> bool
     !t.wrong & (t.count == 3)
 }
 
-// The kind of unit that the line asks for.
-fn kind_of(mighty: bool) -> Kind
-    ensures { result ≡ kind_of mighty }
-{
-    if mighty {
-        return Kind::MightyMux;
-    }
-    Kind::Eds8
-}
-
 // The setting that the line asks for; its set is the 1974 set, for no refusal looks at a set.
 pub fn setting_of(t: Line) -> Setting
     ensures { result ≡ setting_of t }
 {
     Setting {
-        kind: kind_of(t.mighty),
+        kind: if t.mighty {
+            Kind::MightyMux
+        } else {
+            Kind::Eds8
+        },
         block: t.block,
         ports: t.ports,
         base: t.base,

@@ -1,8 +1,10 @@
 -- The numbers of orders 18 and 21, filled one after the other.
 --   Filling, filling_none, filling_on, filling_all   a list of which some places are filled
+--   series_run                                       a list filled by calls that each go on by one number
 -- Not here: the series, in Host.
 -- Assumes nothing.
-use Rattle.std.specs.Prelude.{◌≡◌, refl, List, ◌∷◌, ◌++◌, length, set}
+use Rattle.std.specs.Prelude.{◌≡◌, refl, List, [], ◌∷◌, ◌++◌, length, set}
+use Rattle.std.specs.List.{FoldsTo}
 use Rattle.std.proofs.Math.Path.{sym}
 use Rattle.std.proofs.Common.{◌∙◌, ap, append-nil}
 use Prim.Native.Nat.{ℕ, suc, ◌+◌, ◌-◌, ◌/◌, ◌%◌, ◌<◌, ◌≤◌}
@@ -44,3 +46,14 @@ module _ (m seed : ℕ) where
   filling_all n now x i h f =
       let k : n - i ≡ 0 = omega arith in
       sym (rw (k, take_all i now (omega (arith, f.long))) (append-nil now)) ∙ f.rest
+
+-- a list filled by calls: each goes on to the next number and keeps its m, and leaves its place with what is below m of that number
+pub series_run : {S : Type 0} (R : S → ℕ → S → Type 0) (at m : S → ℕ) → ((s : S) (v : ℕ) (t : S) → R s v t → (m t ≡ m s) × (at t ≡ next (at s)) × (v ≡ at t / 16 % m s)) → (s : S) (vs : List ℕ) (last : S) → FoldsTo R s vs last → vs ≡ series (m s) (length vs) (at s)
+unfolding series
+series_run R at m h s [] last r = refl
+series_run R at m h s (v ∷ vs) last r =
+    let p = h s v r.0 r.1 in
+    let here : v ≡ next (at s) / 16 % m s = p.2 ∙ ap (λ (x : ℕ). x / 16 % m s) p.1 in
+    let rest : vs ≡ series (m s) (length vs) (next (at s)) =
+    series_run R at m h r.0 vs last r.2 ∙ ap (λ (k : ℕ). series k (length vs) (at r.0)) p.0 ∙ ap (series (m s) (length vs)) p.1 in
+    λ i. here i ∷ rest i

@@ -17,10 +17,9 @@ use Rattle.unit.specs.Refusals.{refusal, of_setup}
 use Rattle.driver.specs.Text.{is_digit}
 use Rattle.driver.specs.Printed.{numeral, decimal}
 use Rattle.settings.specs.declared.typed.Line.{Line}
-use Rattle.settings.specs.declared.say.Answer.{Answer}
 use Rattle.settings.specs.Typed.{blank, begun, extended, digit_typed, spaced, typed, kind_of}
 use Rattle.settings.specs.Advice.{advised}
-use Rattle.settings.specs.Answer.{answer_to, taken}
+use Rattle.settings.specs.Answer.{Answer, answer_to, taken}
 
 -- the line with one more number
 abbrev pub and : Line → ℕ → Line

@@ -4,4 +4,4 @@ use Rattle.driver.proofs.digest.of_record.Goals as goal
 
 pub returns : goal.returns
 unfolding record_digest
-returns c = record { is = cc; below = c.of_ports.ensures.below }
+returns c = record { is = cc; below = c.all-3.result.below }

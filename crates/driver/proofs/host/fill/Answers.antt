@@ -1,11 +1,10 @@
--- `driver::host::fill` meets its contract. The loop's invariant: so many words are filled.
-use mathlib.Core.Path.{refl}
-use borrow.Author.Rules.{rules}
-use Rattle.driver.specs.laws.Fill.{filling_on, filling_all}
+-- `driver::host::fill` meets its contract: each call of its closure goes on by one number.
+use Rattle.std.proofs.Common.{ap, ◌∙◌, ℕ, rules}
+use Rattle.driver.specs.Host.{series}
+use Rattle.driver.specs.laws.Fill.{series_run}
 use Rattle.driver.proofs.host.fill.Goals as goal
 
-pub loop-i-preserved : goal.loop-i-preserved
-loop-i-preserved c = let l = c.loop-i in filling_on 65536 _ _ l.mem l.x l.i _ _ (search rules) c.next-x.ensures refl l.invariant
-
 pub returns : goal.returns
-returns c = filling_all 65536 _ _ _ _ _ (search rules) c.loop-i.invariant
+returns c =
+    let r = c.fill_with.ensures in
+    series_run _ (λ s. s.0) (λ _. 65536) (λ s v t k. search rules) _ _ _ r.ran.1 ∙ ap (λ (n : ℕ). series 65536 n c.args.seed) r.len

@@ -1,10 +1,10 @@
--- `driver::host::fill_cells` meets its contract. The loop's invariant: so many cells are filled.
-use borrow.Author.Rules.{rules}
-use Rattle.driver.specs.laws.Fill.{filling_on, filling_all}
+-- `driver::host::fill_cells` meets its contract: each call of its closure goes on by one number.
+use Rattle.std.proofs.Common.{ap, ◌∙◌, ℕ, rules}
+use Rattle.driver.specs.Host.{series, span}
+use Rattle.driver.specs.laws.Fill.{series_run}
 use Rattle.driver.proofs.host.fill_cells.Goals as goal
 
-pub loop-i-preserved : goal.loop-i-preserved
-loop-i-preserved c = let l = c.loop-i in filling_on _ _ _ l.cells l.x l.i _ _ (search rules) c.next-x.ensures c.cell_of.ensures l.invariant
-
 pub returns : goal.returns
-returns c = filling_all _ _ _ _ _ _ (search rules) c.loop-i.invariant
+returns c =
+    let r = c.fill_with.ensures in
+    series_run _ (λ s. s.0) (λ s. span s.1) (λ s v t k. search rules) _ _ _ r.ran.1 ∙ ap (λ (n : ℕ). series (span c.args.m) n c.args.seed) r.len

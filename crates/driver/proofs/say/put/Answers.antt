@@ -1,12 +1,22 @@
--- `driver::say::put` meets its contract. The loop's invariant: the digits passed are put.
-use mathlib.Core.Path.{◌≡◌}
-use native.Mathlib.Omega.{arith}
-use lib.ListN.{length, length-append, length-set}
-use Rattle.driver.specs.laws.Lines.{put_on_lem, put_last}
+-- `driver::say::put` meets its contract: the digits are copied, and one byte after them is written.
+use Rattle.std.proofs.Common.{◌≡◌, ◌+◌, ◌≤◌, ℕ, List, length, take, arith, sym, append_assoc, length-append}
+use Rattle.std.proofs.lemmas.List.{drop-drop}
+use Rattle.std.proofs.lemmas.List.Edits.{sets, sets-eq}
+use Rattle.std.proofs.Math.Seq.{take-length}
+use borrow.Rule.Slice.PartMut.{put_mid}
+use Rattle.driver.specs.laws.Lines.{put_last}
 use Rattle.driver.proofs.say.put.Goals as goal
 
-pub loop-i-preserved : goal.loop-i-preserved
-loop-i-preserved c = let l = c.loop-i in let a = c.args in (omega arith, put_on_lem a.text.now a.digits.now a.at l.i _ 0 (omega arith) l.invariant.1, simp length-set l.invariant.2)
+-- a part that is copied over is set
+copied : (l ys now : List ℕ) (a k : ℕ) → k ≡ length ys → a + length ys ≤ length l → now ≡ ys → put_mid a k l now ≡ sets l a (take (length ys) ys)
+copied l ys now a k e h q =
+    rw (q, e, take-length ys, sets-eq ys l a h, drop-drop (length ys) a l) (sym (append_assoc (take a l) ys _))
 
 pub returns : goal.returns
-returns c = let l = c.loop-i in let a = c.args in let e : l.i ≡ length a.digits.now = omega arith in record { end = simp length-append (omega arith); text = put_last a.text.now a.digits.now a.at l.i l.text a.last e l.invariant.1 }
+returns c =
+    let a = c.args in
+    let d = a.digits.now in
+    record {
+      end = simp length-append (omega arith);
+      text = put_last a.text.now d a.at (length d) _ a.last (omega arith) (copied a.text.now d _ a.at _ (omega arith) (omega arith) c.copy_from_slice.ensures.after);
+    }

@@ -1,0 +1,2 @@
+-- Arrays that the library fills (Filled).
+mod Filled
