@@ -1,5 +1,6 @@
 -- What a driver keeps (tests/second/FORMAT.md, what a driver keeps).
---   Kept                                               the desk, the memory and the list
+--   Desk, Kept                                         what is kept beside the memory and the list, and all of it
+--   desk_of                                            the desk of the code
 --   new_desk                                            the desk at the start of a session
 --   with_unit, with_words, with_places, with_codes, with_kind, with_cells, with_part, with_line, closed   the desk with one part changed
 -- Not here: what an order makes of it, in Session.
@@ -10,7 +11,24 @@ use Rattle.unit.specs.declared.mux.Mux.{Mux}
 use Rattle.unit.specs.Record.{no_mux}
 use Rattle.driver.specs.declared.read.Line.{Line}
 use Rattle.driver.specs.Text.{blank}
-use Rattle.compared.specs.declared.Desk.{Desk}
+use Rattle.compared.specs.declared.Desk.{Desk as DeskMade}
+
+-- whether the text goes on, the line being read, the unit, how many words and places are lent, the set and the kind that setups are given, the cells and which of them are lent
+pub record Desk : Type 0 where
+  pub going : Bool
+  pub line : Line
+  pub unit : Mux
+  pub words : ℕ
+  pub places : ℕ
+  pub codes : List Bool
+  pub kind : ℕ
+  pub cells : List ℕ
+  pub from : ℕ
+  pub lent : ℕ
+
+-- the same of the code's desk, on which orders are carried out only while the text goes on
+abbrev pub desk_of : DeskMade → Desk
+desk_of d = record { going = true; line = d.line; unit = d.unit; words = d.words; places = d.places; codes = d.codes; kind = d.kind; cells = d.cells; from = d.from; lent = d.lent }
 
 -- the desk, all the words of the memory, all the places of the list
 pub record Kept : Type 0 where

@@ -10,7 +10,7 @@
 use Rattle.std.specs.Prelude.{Bool, true, false, List, ℕ, ◌%◌, eqb, ltb, get_or, replicate}
 use Rattle.ground.specs.Choose.{pick}
 use Rattle.words.specs.Special.{set1974}
-use Rattle.framing.specs.declared.read.Frame.{Frame}
+use Rattle.framing.specs.Read.{Frame}
 use Rattle.unit.specs.declared.mux.Setting.{Setting}
 use Rattle.lines.specs.declared.signal.Signal.{Signal}
 use Rattle.lines.specs.declared.signal.Signal.TheVariants.{Arrival, TransmitterEmpty, DeviceStatus}

@@ -15,15 +15,13 @@ use mathlib.Core.List.{List, [], ◌∷◌, ◌++◌, foldl}
 use Rattle.std.specs.Prelude.{ℕ, ◌%◌, eqb, take}
 use Rattle.ground.specs.Choose.{pick, bit}
 use Rattle.words.specs.Speed.{speed_of}
-use Rattle.framing.specs.declared.read.Frame.{Frame}
+use Rattle.framing.specs.Read.{Frame}
 use Rattle.framing.specs.Write.{Wrote}
 use Rattle.framing.specs.Number.{form_number}
 use Rattle.framing.specs.Eds8.{form_of}
 use Rattle.unit.specs.declared.mux.Setting.{Setting}
 use Rattle.unit.specs.declared.mux.Mux.{Mux}
-use Rattle.unit.specs.declared.reply.Answer.{Answer}
-use Rattle.unit.specs.declared.reply.Reply.{Reply}
-use Rattle.unit.specs.Reply.{turn_number}
+use Rattle.unit.specs.Reply.{Answer, Reply, turn_number}
 use Rattle.unit.specs.Setup.{setup}
 use Rattle.driver.specs.declared.say.Said.{Said}
 use Rattle.driver.specs.Digest.{digest, record_digest, window_digest}

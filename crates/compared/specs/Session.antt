@@ -15,9 +15,8 @@ use Rattle.std.proofs.lemmas.List.Edits.{sets}
 use Rattle.ground.specs.Choose.{pick}
 use Rattle.words.specs.Special.{with_code}
 use Rattle.framing.specs.declared.form.Form.{Form}
-use Rattle.framing.specs.declared.read.Frame.{Frame}
 use Rattle.framing.specs.Number.{form_numbered}
-use Rattle.framing.specs.Read.{read_frame}
+use Rattle.framing.specs.Read.{Frame, read_frame}
 use Rattle.unit.specs.declared.mux.Setting.{Setting}
 use Rattle.unit.specs.declared.mux.Mux.{Mux}
 use Rattle.unit.specs.Reply.{world, Outcome}
@@ -28,8 +27,7 @@ use Rattle.driver.specs.declared.read.Line.{Line}
 use Rattle.driver.specs.Host.{series, span, bytes_of}
 use Rattle.driver.specs.Poke.{level, poked, poked_place, poked_port, poked_special}
 use Rattle.driver.specs.Text.{blank, typed}
-use Rattle.compared.specs.declared.Desk.{Desk}
-use Rattle.compared.specs.Desk.{Kept, kept, new_desk, with_unit, with_words, with_places, with_codes, with_kind, with_cells, with_part, with_line, closed}
+use Rattle.compared.specs.Desk.{Desk, Kept, kept, new_desk, with_unit, with_words, with_places, with_codes, with_kind, with_cells, with_part, with_line, closed}
 use Rattle.compared.specs.Orders.{nth, setting_of, call_of, set_of, arrival_call}
 use Rattle.compared.specs.Frames.{part, write_lent, form_at}
 

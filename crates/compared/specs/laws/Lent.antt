@@ -9,10 +9,8 @@ use Rattle.std.specs.Prelude.{◌≡◌, List, [], ◌∷◌, ◌++◌, ℕ, zer
 use Rattle.std.proofs.Common.{ap, arith, length-drop}
 use Rattle.std.proofs.Math.Nat.{suc-min-suc, min-zero, zero-min}
 use Rattle.framing.specs.declared.form.Form.{Form}
-use Rattle.framing.specs.declared.write.Written.{Written}
-use Rattle.framing.specs.Write.{Wrote, wrote, write_frame}
-use Rattle.unit.specs.declared.reply.Replied.{Replied}
-use Rattle.unit.specs.Reply.{world, outcome, Outcome}
+use Rattle.framing.specs.Write.{Written, Wrote, wrote, write_frame}
+use Rattle.unit.specs.Reply.{Replied, world, outcome, Outcome}
 use Rattle.calls.specs.declared.call.Call.{Call}
 use Rattle.calls.specs.Calls.{step}
 use Rattle.compared.specs.Desk.{Kept}

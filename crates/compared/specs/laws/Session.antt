@@ -8,8 +8,7 @@ use Rattle.std.proofs.Common.{sym, ◌∙◌, ap, true≢false, eq-eqb}
 use mathlib.Core.List.{List, [], ◌++◌, foldl-append}
 use Rattle.ground.specs.Choose.{pick}
 use Rattle.driver.specs.Text.{blank, typed, Turned, came, silent}
-use Rattle.compared.specs.declared.Desk.{Desk}
-use Rattle.compared.specs.Desk.{Kept, kept, new_desk, with_line}
+use Rattle.compared.specs.Desk.{Desk, Kept, kept, new_desk, with_line}
 use Rattle.compared.specs.Session.{order, lined, take_byte, played, shut, Driven}
 
 -- a newline: the order of the line with it typed, and a blank line after
