@@ -7,9 +7,8 @@
 -- Assumes nothing.
 use Rattle.std.specs.Prelude.{ℕ, Bool, true, false, not, ◌&&◌, ◌||◌, List, [], ◌∷◌, replicate, nat_le}
 use Rattle.ground.specs.Choose.{first_of, row}
-use Rattle.recording.specs.declared.layout.Layout.{Layout}
+use Rattle.recording.specs.Layout.{Layout, most, known, layout_of}
 use Rattle.recording.specs.declared.event.Event.{Event}
-use Rattle.recording.specs.Layout.{most, known, layout_of}
 
 -- an unknown tag; another length than the tag's; bytes missing; no room in what is lent; a value that may not stand there
 abbrev pub UNKNOWN-TAG : ℕ

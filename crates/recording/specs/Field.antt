@@ -13,12 +13,8 @@
 use Rattle.std.specs.Prelude.{◌≡◌, ℕ, zero, suc, ◌+◌, ◌*◌, ◌/◌, ◌%◌, Bool, true, false, not, ◌&&◌, ◌||◌, List, [], ◌∷◌, ◌++◌, length, take, drop, replicate, ◌==◌, nat_eq, nat_le, nat_lt, slice_index, slice_index_or}
 use Rattle.ground.specs.Choose.{bit, Row, row, first_of}
 use Rattle.ground.specs.Tab.{tab}
-use Rattle.recording.specs.declared.layout.Width.{Width}
-use Rattle.recording.specs.declared.layout.Width.TheVariants.{Zero, One, Two, Four}
-use Rattle.recording.specs.declared.layout.Part.{Part}
-use Rattle.recording.specs.declared.layout.Layout.{Layout}
+use Rattle.recording.specs.Layout.{Width, Zero, One, Two, Four, Part, Layout, width_of, size, known, layout_of, numbers_length, data_length, field_length}
 use Rattle.recording.specs.declared.event.Event.{Event}
-use Rattle.recording.specs.Layout.{width_of, size, known, layout_of, numbers_length, data_length, field_length}
 use Rattle.recording.specs.Event.{UNKNOWN-TAG, WRONG-LENGTH, CUT-SHORT, BAD-VALUE, numbers_fit}
 
 -- ---- an event as bytes

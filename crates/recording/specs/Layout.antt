@@ -7,6 +7,8 @@
 --     sweep        05 | 00 08 | n  .  .  . | list  .  .  .
 --     host write   06 | 00 04 | address  . | word  .
 --     the others   07 to 0F | 00 00: inspection, reset, IOPLS, START, DOC, DOB, DIA, DIAS, tick
+--   Width, Part, Layout   how wide a part is, what may stand in it, and a tag's parts
+--   wide, part_of, layout_in   the same as the code has them
 --   width_of, size     how many bytes a part takes
 --   most              the greatest number that may stand in it
 --   known             the tags that there are
@@ -14,13 +16,66 @@
 --   numbers_length, data_length, field_length   how many bytes the numbers take, the data, the field
 -- Not here: what a tag's parts mean to a unit, in replay; what follows, in laws/Layout.
 -- Assumes nothing.
-use Rattle.std.specs.Prelude.{ℕ, ◌+◌, Bool, true, false, ◌&&◌, List, [], ◌∷◌, nat_lt, slice_index_or}
+use Rattle.std.specs.Prelude.{ℕ, Option, None, Some, ◌+◌, Bool, true, false, ◌&&◌, List, [], ◌∷◌, nat_lt, slice_index_or}
 use Rattle.ground.specs.Choose.{pick}
-use Rattle.recording.specs.declared.layout.Width.{Width}
-use Rattle.recording.specs.declared.layout.Width.TheVariants.{Zero, One, Two, Four}
-use Rattle.recording.specs.declared.layout.Part.{Part}
-use Rattle.recording.specs.declared.layout.Part.TheVariants.{Unused, YesNo, Kind, Byte, Address, Word, Number}
-use Rattle.recording.specs.declared.layout.Layout.{Layout}
+use Rattle.recording.specs.declared.layout.Width as Widths
+use Rattle.recording.specs.declared.layout.Width.TheVariants as Wide
+use Rattle.recording.specs.declared.layout.Part as Parts
+use Rattle.recording.specs.declared.layout.Part.TheVariants as Kinds
+use Rattle.recording.specs.declared.layout.Layout as Layouts
+
+-- how wide a part is: no byte, one, two, four
+pub data Width : Type 0 where
+  Zero : Width
+  One : Width
+  Two : Width
+  Four : Width
+
+-- what may stand in a part: nothing, a yes or no, a kind of unit, a byte, a word's address, a word, any number
+pub data Part : Type 0 where
+  Unused : Part
+  YesNo : Part
+  Kind : Part
+  Byte : Part
+  Address : Part
+  Word : Part
+  Number : Part
+
+-- four parts, and whether the special set follows them
+pub record Layout : Type 0 where
+  pub first : Part
+  pub second : Part
+  pub third : Part
+  pub fourth : Part
+  pub set : Bool
+
+-- ---- the code's, which has no part where a tag uses none, and so no width of no byte
+
+abbrev pub wide : Widths.Width → Width
+wide Wide.One = One
+wide Wide.Two = Two
+wide Wide.Four = Four
+
+abbrev pub part_of : Option Parts.Part → Part
+part_of None = Unused
+part_of (Some Kinds.YesNo) = YesNo
+part_of (Some Kinds.Kind) = Kind
+part_of (Some Kinds.Byte) = Byte
+part_of (Some Kinds.Address) = Address
+part_of (Some Kinds.Word) = Word
+part_of (Some Kinds.Number) = Number
+
+abbrev pub layout_in : Layouts.Layout → Layout
+layout_in l =
+    record {
+      first = part_of (slice_index_or l.parts 0 None);
+      second = part_of (slice_index_or l.parts 1 None);
+      third = part_of (slice_index_or l.parts 2 None);
+      fourth = part_of (slice_index_or l.parts 3 None);
+      set = l.set;
+    }
+
+-- ---- the table
 
 -- how many bytes a part takes
 unfoldable pub width_of : Part → Width

@@ -1,26 +1,55 @@
 -- Bytes read field by field into a lent list of events (document 02, K8).
---   done, begun              an answer: refusal number or 0, offset, and how much was written
+--   Done, done, begun        an answer: refusal number or 0, offset, and how much was written
+--   done_of, Comes, one_of   the same as the code has them
 --   going, scan_one, scanned  reading on, field by field, up to the first at fault
 --   checked                  what reading answers: the first fault anywhere; only then 18
 --   Checks                   the same with its bound
---   one_at, heard             the event of the field at an offset; the events of so many fields
+--   One, one_at, heard        the event of the field at an offset, and the offset after it; the events of so many fields
 --   Reading, reading, read   the call: what it answers, and every place of the list
 -- Not here: one field, in Field; what follows, in laws/.
 -- Assumes nothing.
-use Rattle.std.specs.Prelude.{◌≡◌, ℕ, zero, suc, ◌+◌, ◌≤◌, Bool, ◌&&◌, List, [], ◌∷◌, ◌++◌, length, drop, ◌==◌, nat_lt}
+use Rattle.std.specs.Prelude.{◌≡◌, ℕ, Option, None, Some, Result, Ok, Err, zero, suc, ◌+◌, ◌≤◌, Bool, ◌&&◌, List, [], ◌∷◌, ◌++◌, length, drop, ◌==◌, nat_lt}
 use Rattle.ground.specs.Choose.{pick}
+use Rattle.recording.specs.declared.fault.Refused.{Refused}
 use Rattle.recording.specs.declared.event.Event.{Event}
-use Rattle.recording.specs.declared.reading.Done.{Done}
-use Rattle.recording.specs.declared.reading.One.{One}
+use Rattle.recording.specs.declared.reading.Reach.{Reach}
+use Rattle.recording.specs.declared.reading.One as Found
+use Rattle.recording.specs.Fault.{number_of}
 use Rattle.recording.specs.Layout.{field_length}
 use Rattle.recording.specs.Event.{NO-ROOM, no_event}
 use Rattle.recording.specs.Field.{tag_in, event_in, field_code}
+
+-- the refusal number or 0, the offset of the tag at fault, and how much was written
+pub record Done : Type 0 where
+  pub code : ℕ
+  pub at : ℕ
+  pub count : ℕ
+
+-- an event, and the offset after its field
+pub record One : Type 0 where
+  pub event : Event
+  pub next : ℕ
 
 abbrev pub done : ℕ → ℕ → ℕ → Done
 done c at n = record { code = c; at = at; count = n }
 
 abbrev pub begun : Done
 begun = done 0 0 0
+
+-- the code's answer, by its numbers: a refusal counts nothing
+abbrev pub done_of : Result ℕ Refused → Done
+done_of (Ok n) = done 0 0 n
+done_of (Err r) = done (number_of r.fault) r.at 0
+
+-- how far the code's reading on comes: so many fields and no fault, or a fault at an offset
+abbrev pub Comes : Result Reach Refused → Done → Type 0
+Comes (Ok r) d = d ≡ done 0 r.at r.count
+Comes (Err r) d = (d.code ≡ number_of r.fault) × (d.at ≡ r.at)
+
+-- and its event at an offset: none, where there is no good field
+abbrev pub one_of : ℕ → Option Found.One → One
+one_of at None = record { event = no_event; next = at }
+one_of at (Some o) = record { event = o.event; next = o.next }
 
 -- ---- field by field
 

@@ -1,4 +1,5 @@
 -- What follows from the definitions of recording. Nothing here need be believed.
+--   Views    what a contract says of the code's values by their numbers says all of them
 --   Examples   the worked examples hold
 --   Put      bytes put into a list, one after the other
 --   Layout   the table: how long each tag's field is
@@ -14,6 +15,7 @@
 --   Calls    writing and reading as calls: what is refused and where, and that each is the other's
 --   Outcomes   any two outcomes that a contract allows are equal
 --   Fill     events put into a list one after the other
+pub mod Views
 pub mod Examples
 pub mod Put
 pub mod Layout

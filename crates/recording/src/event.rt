@@ -1,8 +1,14 @@
 // An event: a call of document 01 or a host write of one word, as a record that can stand in a list.
+#![tactic(auto, unfolding(ground::specs::Choose::pick, ground::specs::Choose::first_of, crate::specs::Event::numbers_fit, crate::specs::Event::event_fits, crate::specs::Event::event_code))]
+
 ghost use Rattle.std.specs.Prelude.{◌≡◌};
+ghost use Rattle.recording.specs.Fault.{code_of};
+ghost use Rattle.recording.specs.Layout.{layout_in};
 ghost use Rattle.recording.specs.Event.{no_event, numbers_fit, none_marked, event_fits, event_code};
 
-use crate::layout::{Layout, known, layout_of, most};
+use crate::fault::Fault;
+use crate::layout::{Layout, layout_of, most};
+use crate::tag::Tag;
 
 // The tag, the four numbers of its data in the table's order, and the special set. What the tag does not use is 0.
 #[derive(Clone, Copy)]
@@ -14,17 +20,6 @@ pub struct Event {
     pub fourth: u32,
     pub set: [bool; 128],
 }
-
-// The numbers that a recording refuses with (document 02, K8).
-pub const UNKNOWN_TAG: u8 = 13;
-
-pub const WRONG_LENGTH: u8 = 14;
-
-pub const CUT_SHORT: u8 = 15;
-
-pub const NO_ROOM: u8 = 18;
-
-pub const BAD_VALUE: u8 = 21;
 
 // All zeros: the tag of no event.
 pub fn no_event() -> Event
@@ -42,12 +37,9 @@ pub fn no_event() -> Event
 
 // Whether the numbers may stand in their parts.
 pub fn numbers_fit(l: Layout, e: Event) -> bool
-    ensures { result ≡ numbers_fit l e }
+    ensures { result ≡ numbers_fit (layout_in l) e }
 {
-    let one = l.first;
-    let two = l.second;
-    let three = l.third;
-    let four = l.fourth;
+    let [one, two, three, four] = l.parts;
     let front = (e.first <= most(one)) & (e.second <= most(two));
     front & (e.third <= most(three)) & (e.fourth <= most(four))
 }
@@ -56,33 +48,24 @@ pub fn numbers_fit(l: Layout, e: Event) -> bool
 fn none_marked(set: [bool; 128]) -> bool
     ensures { result ≡ none_marked set }
 {
-    let mut k = 0;
-    let mut none = true;
-    while k < 128 {
-        none = none & !set[k];
-        k += 1;
-    }
-    none
+    set.iter().all(|yes| !*yes)
 }
 
-// Whether everything of an event may stand where it is: 21 otherwise.
+// Whether everything of an event may stand where it is.
 fn event_fits(e: Event) -> bool
     ensures { result ≡ event_fits e }
 {
     let l = layout_of(e.tag);
-    let set = e.set;
-    numbers_fit(l, e) & (l.set | none_marked(set))
+    numbers_fit(l, e) & (l.set | none_marked(e.set))
 }
 
-// What the writer finds at fault in an event: 13, 21 or nothing.
-pub fn event_code(e: Event) -> u8
-    ensures { result ≡ event_code e }
+// What the writer finds at fault in an event: its tag, or a value.
+pub fn check_event(e: Event) -> Result<(), Fault>
+    ensures { code_of result ≡ event_code e }
 {
-    if !known(e.tag) {
-        return UNKNOWN_TAG;
-    }
+    Tag::try_from(e.tag)?;
     if !event_fits(e) {
-        return BAD_VALUE;
+        return Err(Fault::BadValue);
     }
-    0
+    Ok(())
 }

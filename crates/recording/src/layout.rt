@@ -1,21 +1,23 @@
 // The layout of each tag's data: the one table. docs/RECORDING.md has it drawn.
-ghost use Rattle.std.specs.Prelude.{◌≡◌};
+#![tactic(auto, unfolding(ground::specs::Choose::pick, crate::specs::Layout::width_of, crate::specs::Layout::size, crate::specs::Layout::most, crate::specs::Layout::layout_of, crate::specs::Layout::data_length))]
+
+ghost use Rattle.std.specs.Prelude.{◌≡◌, false};
 ghost use Rattle.ground.specs.Choose.{Below};
-ghost use Rattle.recording.specs.Layout.{width_of, size, most, known, layout_of, numbers_length, data_length, field_length};
+ghost use Rattle.recording.specs.Layout.{wide, part_of, layout_in, width_of, size, most, layout_of, numbers_length, data_length, field_length};
+
+use crate::tag::Tag;
 
 // How many bytes a part takes.
-#[derive(Clone, Copy)]
+#[derive(Clone, Copy, PartialEq, Eq, Debug)]
 pub enum Width {
-    Zero,
-    One,
-    Two,
-    Four,
+    One = 1,
+    Two = 2,
+    Four = 4,
 }
 
-// What may stand in a part: nothing, a yes or no, a kind of unit, a byte, a word's address, a word, any number.
-#[derive(Clone, Copy)]
+// What may stand in a part: a yes or no, a kind of unit, a byte, a word's address, a word, any number.
+#[derive(Clone, Copy, PartialEq, Eq, Debug)]
 pub enum Part {
-    Unused,
     YesNo,
     Kind,
     Byte,
@@ -24,149 +26,101 @@ pub enum Part {
     Number,
 }
 
-// The parts of a tag's data in their order, and whether the special set follows them.
+// The parts of a tag's data in their order, none where it uses fewer than four, and whether the special set follows them.
 #[derive(Clone, Copy)]
 pub struct Layout {
-    pub first: Part,
-    pub second: Part,
-    pub third: Part,
-    pub fourth: Part,
+    pub parts: [Option<Part>; 4],
     pub set: bool,
 }
 
 // The width of a part.
 pub fn width_of(p: Part) -> Width
-    ensures { result ≡ width_of p }
+    ensures { wide result ≡ width_of (part_of (Some p)) }
 {
     match p {
-        Part::Unused => Width::Zero,
-        Part::YesNo => Width::One,
-        Part::Kind => Width::One,
-        Part::Byte => Width::One,
-        Part::Address => Width::Two,
-        Part::Word => Width::Two,
+        Part::YesNo | Part::Kind | Part::Byte => Width::One,
+        Part::Address | Part::Word => Width::Two,
         Part::Number => Width::Four,
     }
 }
 
 // A width in bytes.
 pub fn size(w: Width) -> usize
-    ensures { Below 5 (size w) result }
+    ensures { Below 5 (size (wide w)) result }
 {
-    match w {
-        Width::Zero => 0,
-        Width::One => 1,
-        Width::Two => 2,
-        Width::Four => 4,
-    }
+    w as usize
 }
 
-// The greatest number that may stand in a part.
-pub fn most(p: Part) -> u32
-    ensures { result ≡ most p }
+// The greatest number that may stand in a part; one that is not used is 0.
+pub fn most(p: Option<Part>) -> u32
+    ensures { result ≡ most (part_of p) }
 {
     match p {
-        Part::Unused => 0,
-        Part::YesNo => 1,
-        Part::Kind => 1,
-        Part::Byte => 255,
-        Part::Address => 32767,
-        Part::Word => 65535,
-        Part::Number => 4294967295,
+        None => 0,
+        Some(Part::YesNo) => 1,
+        Some(Part::Kind) => 1,
+        Some(Part::Byte) => 255,
+        Some(Part::Address) => 32767,
+        Some(Part::Word) => 65535,
+        Some(Part::Number) => 4294967295,
     }
 }
 
-// Whether a tag is in the table.
-pub fn known(tag: u8) -> bool
-    ensures { result ≡ known tag }
+// Parts with no set behind them.
+fn bare(parts: [Option<Part>; 4]) -> Layout
+    ensures { result ≡ record { parts = parts; set = false } }
 {
-    (0 < tag) & (tag < 16)
+    Layout { parts, set: false }
 }
 
-// The table: setup, an arrival, transmitter empty, Device Status, a sweep, a host write; the other tags have no data.
+// The table; the other tags have no data.
 pub fn layout_of(tag: u8) -> Layout
-    ensures { result ≡ layout_of tag }
+    ensures { layout_in result ≡ layout_of tag }
 {
-    match tag {
-        1 => Layout {
-            first: Part::Kind,
-            second: Part::Number,
-            third: Part::Number,
-            fourth: Part::Number,
+    match Tag::try_from(tag) {
+        Ok(Tag::Setup) => Layout {
+            parts: [
+                Some(Part::Kind),
+                Some(Part::Number),
+                Some(Part::Number),
+                Some(Part::Number),
+            ],
             set: true,
         },
-        2 => Layout {
-            first: Part::Number,
-            second: Part::Byte,
-            third: Part::YesNo,
-            fourth: Part::YesNo,
-            set: false,
-        },
-        3 => Layout {
-            first: Part::Number,
-            second: Part::Unused,
-            third: Part::Unused,
-            fourth: Part::Unused,
-            set: false,
-        },
-        4 => Layout {
-            first: Part::Number,
-            second: Part::YesNo,
-            third: Part::Unused,
-            fourth: Part::Unused,
-            set: false,
-        },
-        5 => Layout {
-            first: Part::Number,
-            second: Part::Number,
-            third: Part::Unused,
-            fourth: Part::Unused,
-            set: false,
-        },
-        6 => Layout {
-            first: Part::Address,
-            second: Part::Word,
-            third: Part::Unused,
-            fourth: Part::Unused,
-            set: false,
-        },
-        _ => Layout {
-            first: Part::Unused,
-            second: Part::Unused,
-            third: Part::Unused,
-            fourth: Part::Unused,
-            set: false,
-        },
+        Ok(Tag::Arrival) => bare([
+            Some(Part::Number),
+            Some(Part::Byte),
+            Some(Part::YesNo),
+            Some(Part::YesNo),
+        ]),
+        Ok(Tag::TransmitterEmpty) => bare([Some(Part::Number), None, None, None]),
+        Ok(Tag::DeviceStatus) => bare([Some(Part::Number), Some(Part::YesNo), None, None]),
+        Ok(Tag::Sweep) => bare([Some(Part::Number), Some(Part::Number), None, None]),
+        Ok(Tag::HostWrite) => bare([Some(Part::Address), Some(Part::Word), None, None]),
+        _ => bare([None; 4]),
     }
 }
 
-// How many bytes a part takes.
-pub fn part_size(p: Part) -> usize
-    ensures { Below 5 (size (width_of p)) result }
+// How many bytes a part takes; one that is not used takes none.
+pub fn part_size(p: Option<Part>) -> usize
+    ensures { Below 5 (size (width_of (part_of p))) result }
 {
-    size(width_of(p))
+    p.map_or(0, |p| size(width_of(p)))
 }
 
 // How many bytes the four numbers take.
 pub fn numbers_length(l: Layout) -> usize
-    ensures { Below 17 (numbers_length l) result }
+    ensures { Below 17 (numbers_length (layout_in l)) result }
 {
-    let one = l.first;
-    let two = l.second;
-    let three = l.third;
-    let four = l.fourth;
+    let [one, two, three, four] = l.parts;
     part_size(one) + part_size(two) + part_size(three) + part_size(four)
 }
 
 // How many bytes the data has: the numbers, and the set.
 pub fn data_length(l: Layout) -> usize
-    ensures { Below 145 (data_length l) result }
+    ensures { Below 145 (data_length (layout_in l)) result }
 {
-    let n = numbers_length(l);
-    if l.set {
-        return n + 128;
-    }
-    n
+    numbers_length(l) + if l.set { 128 } else { 0 }
 }
 
 // How many bytes a field of that tag has: the tag, the length and the data.

@@ -2,7 +2,9 @@
 #![tactic(auto)]
 
 pub mod event;
+pub mod fault;
 pub mod field;
 pub mod layout;
 pub mod pass;
 pub mod reading;
+pub mod tag;

@@ -1,20 +1,20 @@
 // Reading on from field to field: what is at fault in some bytes, and how many events they hold.
-ghost use Rattle.std.specs.Prelude.{◌≡◌, ◌+◌, ◌^◌, ◌<◌, ◌≤◌, length, drop};
-ghost use Rattle.ground.specs.Choose.{Below};
-ghost use Rattle.recording.specs.Layout.{field_length};
-ghost use Rattle.recording.specs.Field.{tag_in, event_in, field_code};
-ghost use Rattle.recording.specs.Scan.{begun, going, scan_one, scanned, Checks, one_at};
+#![tactic(auto, unfolding(ground::specs::Choose::pick, crate::specs::Scan::scan_one, crate::specs::Scan::one_at))]
 
-use crate::event::{Event, NO_ROOM, no_event};
-use crate::field::{event_in, field_code, tag_in};
+ghost use Rattle.std.specs.Prelude.{◌≡◌, ◌+◌, ◌^◌, ◌<◌, ◌↔◌, length, drop, IsSome};
+ghost use Rattle.recording.specs.Field.{field_code};
+ghost use Rattle.recording.specs.Scan.{done, begun, done_of, Comes, one_of, scan_one, scanned, Checks, one_at};
+
+use crate::event::Event;
+use crate::fault::{Fault, Refused};
+use crate::field::{check_field, event_in, tag_in};
 use crate::layout::field_length;
 
-// The refusal number or 0, the offset of the tag at fault, and how much was written.
+// How far reading on has come: the offset, and how many fields there were.
 #[derive(Clone, Copy)]
-pub struct Done {
-    pub code: u8,
-    pub at: usize,
-    pub count: usize,
+struct Reach {
+    at: usize,
+    count: usize,
 }
 
 // An event, and the offset after its field.
@@ -24,120 +24,61 @@ pub struct One {
     pub next: usize,
 }
 
-// Whether there is more to read: nothing is at fault, and bytes are left.
-fn going(bytes: &[u8], d: Done) -> bool
-    ensures { result ≡ going bytes.now d }
-{
-    (d.code == 0) & (d.at < bytes.len())
-}
-
-// What is at fault in the field at an offset.
-fn code_at(bytes: &[u8], at: usize) -> u8
-    requires { at ≤ length bytes.now }
-    ensures { result ≡ field_code (drop at bytes.now) }
-{
-    field_code(&bytes[at..])
-}
-
-// How many bytes the field at an offset has.
-fn length_at(bytes: &[u8], at: usize) -> usize
-    requires { at ≤ length bytes.now }
-    ensures { Below 148 (field_length (tag_in (drop at bytes.now))) result }
-{
-    field_length(tag_in(&bytes[at..]))
-}
-
-// The event of the field at an offset.
-fn event_at(bytes: &[u8], at: usize) -> Event
-    requires { at ≤ length bytes.now }
-    ensures { result ≡ event_in (drop at bytes.now) }
-{
-    event_in(&bytes[at..])
-}
-
 // One field more.
-fn scan_one(bytes: &[u8], d: Done) -> Done
-    requires at_in_bounds { d.at < length bytes.now }
-    requires count_bound { d.count + 1 < 2 ^ 64 }
-    ensures { result ≡ scan_one bytes.now d }
+fn scan_one(bytes: &[u8], r: Reach) -> Result<Reach, Refused>
+    requires at_in_bounds { r.at < length bytes.now }
+    requires count_bound { r.count + 1 < 2 ^ 64 }
+    ensures { Comes result (scan_one bytes.now (done 0 r.at r.count)) }
 {
-    let c = code_at(bytes, d.at);
-    if c != 0 {
-        return Done {
-            code: c,
-            at: d.at,
-            count: d.count,
-        };
-    }
-    Done {
-        code: 0,
-        at: d.at + length_at(bytes, d.at),
-        count: d.count + 1,
-    }
+    let rest = &bytes[r.at..];
+    check_field(rest).map_err(|fault| Refused { fault, at: r.at })?;
+    Ok(Reach {
+        at: r.at + field_length(tag_in(rest)),
+        count: r.count + 1,
+    })
 }
 
 // At most so many fields from the start on, up to the first at fault.
-fn scan(bytes: &[u8], most: usize) -> Done
-    ensures { result ≡ scanned most bytes.now begun }
+fn scan(bytes: &[u8], most: usize) -> Result<Reach, Refused>
+    ensures { Comes result (scanned most bytes.now begun) }
 {
-    let mut d = Done {
-        code: 0,
-        at: 0,
-        count: 0,
-    };
-    let mut left = most;
-    while left > 0 && going(bytes, d) {
-        d = scan_one(bytes, d);
-        left -= 1;
+    let mut r = Reach { at: 0, count: 0 };
+    for _ in 0..most {
+        if bytes.len() <= r.at {
+            return Ok(r);
+        }
+        r = scan_one(bytes, r)?;
     }
-    d
+    Ok(r)
 }
 
-// What reading into a list of so many places answers.
-pub fn check(bytes: &[u8], room: usize) -> Done
-    ensures { Checks bytes.now room result }
+// What reading into a list of so many places answers: how many events there are, or what is refused.
+pub fn check(bytes: &[u8], room: usize) -> Result<usize, Refused>
+    ensures { Checks bytes.now room (done_of result) }
 {
-    let whole = scan(bytes, bytes.len());
-    if whole.code != 0 {
-        return Done {
-            code: whole.code,
-            at: whole.at,
-            count: 0,
-        };
-    }
-    let part = scan(bytes, room);
+    scan(bytes, bytes.len())?;
+    let part = scan(bytes, room)?;
     if part.at < bytes.len() {
-        return Done {
-            code: NO_ROOM,
+        return Err(Refused {
+            fault: Fault::NoRoom,
             at: part.at,
-            count: 0,
-        };
+        });
     }
-    Done {
-        code: 0,
-        at: 0,
-        count: part.count,
-    }
+    Ok(part.count)
 }
 
-// The event of the field at an offset, and the offset after it; where none stands there, none, and the same offset.
-pub fn read_one(bytes: &[u8], at: usize) -> One
-    ensures { result ≡ one_at bytes.now at }
+// The event of the field at an offset, and the offset after it, if a good one stands there.
+pub fn read_one(bytes: &[u8], at: usize) -> Option<One>
+    ensures event { one_of at result ≡ one_at bytes.now at }
+    ensures good { IsSome result ↔ (field_code (drop at bytes.now) ≡ 0) }
 {
     if bytes.len() <= at {
-        return One {
-            event: no_event(),
-            next: at,
-        };
+        return None;
     }
-    if code_at(bytes, at) != 0 {
-        return One {
-            event: no_event(),
-            next: at,
-        };
-    }
-    One {
-        event: event_at(bytes, at),
-        next: at + length_at(bytes, at),
-    }
+    let rest = &bytes[at..];
+    check_field(rest).ok()?;
+    Some(One {
+        event: event_in(rest),
+        next: at + field_length(tag_in(rest)),
+    })
 }

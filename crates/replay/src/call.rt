@@ -1,84 +1,86 @@
-// An event as the call that it records, and a call as its event.
+// An event as the call that it records, and a call as its event. No conversion here can be a From: each goes between types of other crates.
+#![tactic(auto, using(crate::proofs::Bits::same_bit), unfolding(ground::specs::Choose::pick, crate::specs::Calls::kind_of, crate::specs::Calls::signal_of, crate::specs::Calls::order_of, crate::specs::Calls::act_of, crate::specs::Calls::call_of, crate::specs::Calls::kind_number, crate::specs::Calls::line_event, crate::specs::Calls::order_tag, crate::specs::Calls::act_event, crate::specs::Calls::what_event))]
+
 ghost use Rattle.std.specs.Prelude.{◌≡◌};
-ghost use Rattle.replay.specs.Calls.{kind_of, setting_of, signal_of, order_of, act_of, call_of, kind_number, flag, bare_event, setup_event, line_event, order_tag, act_event, event_of, write_event};
+ghost use Rattle.recording.specs.Tag.{tag_number};
+ghost use Rattle.replay.specs.Calls.{kind_of, setting_of, signal_of, order_of, act_of, call_of, kind_number, bare_event, setup_event, line_event, order_tag, act_event, event_of, write_event};
 
 use calls::call::{Act, Call, What, asking, setting_up};
 use interrupt::Kind;
 use lines::signal::Signal;
 use processor::orders::Order;
 use recording::event::{Event, no_event};
+use recording::tag::Tag;
 use unit::mux::Setting;
 
 // The kind of unit by its number.
 fn kind_of(n: u32) -> Kind
     ensures { result ≡ kind_of n }
 {
-    if n == 0 {
-        return Kind::Eds8;
+    match n {
+        0 => Kind::Eds8,
+        _ => Kind::MightyMux,
     }
-    Kind::MightyMux
 }
 
-// Tag 1: what setup was given.
+// What setup was given.
 fn setting_of(e: Event) -> Setting
     ensures { result ≡ setting_of e }
 {
-    let codes = e.set;
+    let special = e.set;
     Setting {
         kind: kind_of(e.first),
         block: e.second,
         ports: e.third,
         base: e.fourth,
-        special: codes,
+        special,
     }
 }
 
-// Tags 2 to 4: what a line did.
+// What a line did.
 fn signal_of(e: Event) -> Signal
     ensures { result ≡ signal_of e }
 {
-    if e.tag == 2 {
-        return Signal::Arrival {
+    match Tag::try_from(e.tag) {
+        Ok(Tag::Arrival) => Signal::Arrival {
             c: (e.second % 256) as u8,
             parity: e.third != 0,
             brk: e.fourth != 0,
-        };
-    }
-    if e.tag == 3 {
-        return Signal::TransmitterEmpty;
-    }
-    Signal::DeviceStatus {
-        level: e.second != 0,
+        },
+        Ok(Tag::TransmitterEmpty) => Signal::TransmitterEmpty,
+        _ => Signal::DeviceStatus {
+            level: e.second != 0,
+        },
     }
 }
 
-// Tags 8 to 15: what the processor did.
+// What the processor did.
 fn order_of(tag: u8) -> Order
     ensures { result ≡ order_of tag }
 {
-    match tag {
-        8 => Order::Reset,
-        9 => Order::Iopls,
-        10 => Order::Start,
-        11 => Order::Doc,
-        12 => Order::Dob,
-        13 => Order::Dia,
-        14 => Order::Dias,
+    match Tag::try_from(tag) {
+        Ok(Tag::Reset) => Order::Reset,
+        Ok(Tag::Iopls) => Order::Iopls,
+        Ok(Tag::Start) => Order::Start,
+        Ok(Tag::Doc) => Order::Doc,
+        Ok(Tag::Dob) => Order::Dob,
+        Ok(Tag::Dia) => Order::Dia,
+        Ok(Tag::Dias) => Order::Dias,
         _ => Order::Tick,
     }
 }
 
-// Tags 2 to 4, 7 and 8 to 15: one thing asked of the unit that stands.
+// One thing asked of the unit that stands: the tags of a line come before a sweep's.
 fn act_of(e: Event) -> Act
     ensures { result ≡ act_of e }
 {
-    if e.tag < 5 {
+    if e.tag < Tag::Sweep as u8 {
         return Act::Line {
             port: e.first,
             signal: signal_of(e),
         };
     }
-    if e.tag == 7 {
+    if e.tag == Tag::Inspection as u8 {
         return Act::Inspect;
     }
     Act::Processor {
@@ -90,59 +92,44 @@ fn act_of(e: Event) -> Act
 pub fn call_of(e: Event) -> Call
     ensures { result ≡ call_of e }
 {
-    if e.tag == 1 {
-        return setting_up(setting_of(e));
+    match Tag::try_from(e.tag) {
+        Ok(Tag::Setup) => setting_up(setting_of(e)),
+        Ok(Tag::Sweep) => asking(What::Sweep { n: e.first }),
+        _ => asking(What::Do { act: act_of(e) }),
     }
-    if e.tag == 5 {
-        return asking(What::Sweep { n: e.first });
-    }
-    asking(What::Do { act: act_of(e) })
 }
 
 // The number of a kind of unit.
 fn kind_number(k: Kind) -> u32
     ensures { result ≡ kind_number k }
 {
-    match k {
-        Kind::Eds8 => 0,
-        Kind::MightyMux => 1,
-    }
-}
-
-// A yes or no as a number.
-fn flag(yes: bool) -> u32
-    ensures { result ≡ flag yes }
-{
-    if yes {
-        return 1;
-    }
-    0
+    k as u32
 }
 
 // An event with two numbers and no set.
-fn bare_event(tag: u8, first: u32, second: u32) -> Event
-    ensures { result ≡ bare_event tag first second }
+fn bare_event(tag: Tag, first: u32, second: u32) -> Event
+    ensures { result ≡ bare_event (tag_number tag) first second }
 {
-    let mut e = no_event();
-    e.tag = tag;
-    e.first = first;
-    e.second = second;
-    e
+    Event {
+        tag: u8::from(tag),
+        first,
+        second,
+        ..no_event()
+    }
 }
 
 // The event of a setup.
 fn setup_event(s: Setting) -> Event
     ensures { result ≡ setup_event s }
 {
-    let kind = s.kind;
-    let codes = s.special;
+    let set = s.special;
     Event {
-        tag: 1,
-        first: kind_number(kind),
+        tag: u8::from(Tag::Setup),
+        first: kind_number(s.kind),
         second: s.block,
         third: s.ports,
         fourth: s.base,
-        set: codes,
+        set,
     }
 }
 
@@ -151,30 +138,29 @@ fn line_event(port: u32, signal: Signal) -> Event
     ensures { result ≡ line_event port signal }
 {
     match signal {
-        Signal::Arrival { c, parity, brk } => {
-            let mut e = bare_event(2, port, c as u32);
-            e.third = flag(parity);
-            e.fourth = flag(brk);
-            e
-        }
-        Signal::TransmitterEmpty => bare_event(3, port, 0),
-        Signal::DeviceStatus { level } => bare_event(4, port, flag(level)),
+        Signal::Arrival { c, parity, brk } => Event {
+            third: u32::from(parity),
+            fourth: u32::from(brk),
+            ..bare_event(Tag::Arrival, port, u32::from(c))
+        },
+        Signal::TransmitterEmpty => bare_event(Tag::TransmitterEmpty, port, 0),
+        Signal::DeviceStatus { level } => bare_event(Tag::DeviceStatus, port, u32::from(level)),
     }
 }
 
 // The tag of an order.
-fn order_tag(o: Order) -> u8
-    ensures { result ≡ order_tag o }
+fn order_tag(o: Order) -> Tag
+    ensures { tag_number result ≡ order_tag o }
 {
     match o {
-        Order::Reset => 8,
-        Order::Iopls => 9,
-        Order::Start => 10,
-        Order::Doc => 11,
-        Order::Dob => 12,
-        Order::Dia => 13,
-        Order::Dias => 14,
-        Order::Tick => 15,
+        Order::Reset => Tag::Reset,
+        Order::Iopls => Tag::Iopls,
+        Order::Start => Tag::Start,
+        Order::Doc => Tag::Doc,
+        Order::Dob => Tag::Dob,
+        Order::Dia => Tag::Dia,
+        Order::Dias => Tag::Dias,
+        Order::Tick => Tag::Tick,
     }
 }
 
@@ -185,7 +171,7 @@ fn act_event(a: Act) -> Event
     match a {
         Act::Line { port, signal } => line_event(port, signal),
         Act::Processor { order } => bare_event(order_tag(order), 0, 0),
-        Act::Inspect => bare_event(7, 0, 0),
+        Act::Inspect => bare_event(Tag::Inspection, 0, 0),
     }
 }
 
@@ -193,12 +179,10 @@ fn act_event(a: Act) -> Event
 pub fn event_of(c: Call, list: u32) -> Event
     ensures { result ≡ event_of c list }
 {
-    let w = c.what;
-    let s = c.setting;
-    match w {
-        What::Setup => setup_event(s),
+    match c.what {
+        What::Setup => setup_event(c.setting),
         What::Do { act } => act_event(act),
-        What::Sweep { n } => bare_event(5, n, list),
+        What::Sweep { n } => bare_event(Tag::Sweep, n, list),
     }
 }
 
@@ -206,5 +190,5 @@ pub fn event_of(c: Call, list: u32) -> Event
 pub fn write_event(address: u32, word: u16) -> Event
     ensures { result ≡ write_event address word }
 {
-    bare_event(6, address, word as u32)
+    bare_event(Tag::HostWrite, address, u32::from(word))
 }

@@ -2,38 +2,40 @@
 ghost use Rattle.std.specs.Prelude.{◌≡◌, length, take};
 ghost use Rattle.ground.specs.Machine.{run};
 ghost use Rattle.recording.specs.Pass.{kept};
-ghost use Rattle.replay.specs.Replay.{begun, replayed};
+ghost use Rattle.replay.specs.Replay.{played_of, begun, replayed};
 
-use crate::play::{Played, begin, replay_one};
+use crate::play::{begin, replay_one};
 use recording::event::Event;
-use tape::at_most_eight;
+use unit::mux::Mux;
+use unit::refusal::Refusal;
 
 // The events played on from where a replay stands.
-pub fn replay_on(s: Played, mem: &mut [u16], events: &[Event]) -> Played
-    ensures { kept result mem.new ≡ run replayed (kept s mem.old) events.now }
+pub fn replay_on(s: Result<Mux, Refusal>, mem: &mut [u16], events: &[Event]) -> Result<Mux, Refusal>
+    ensures { kept (played_of result) mem.new ≡ run replayed (kept (played_of s) mem.old) events.now }
 {
     let mut w = s;
-    let mut i = 0;
-    while i < events.len() {
-        let e = events[i];
-        w = replay_one(w, mem, e);
-        i += 1;
+    for e in events {
+        w = replay_one(w, mem, *e);
     }
     w
 }
 
 // The events played from a record of zeros.
-pub fn replay(mem: &mut [u16], events: &[Event]) -> Played
-    ensures { kept result mem.new ≡ run replayed (kept (begun (length mem.old)) mem.old) events.now }
+pub fn replay(mem: &mut [u16], events: &[Event]) -> Result<Mux, Refusal>
+    ensures { kept (played_of result) mem.new ≡ run replayed (kept (begun (length mem.old)) mem.old) events.now }
 {
     let s = begin(mem.len());
     replay_on(s, mem, events)
 }
 
 // The first of eight events by value, played on: whoever calls it needs no walk by hand.
-pub fn replay_eight(s: Played, mem: &mut [u16], events: [Event; 8], lent: usize) -> Played
-    ensures { kept result mem.new ≡ run replayed (kept s mem.old) (take lent events) }
+pub fn replay_eight(
+    s: Result<Mux, Refusal>,
+    mem: &mut [u16],
+    events: [Event; 8],
+    lent: usize,
+) -> Result<Mux, Refusal>
+    ensures { kept (played_of result) mem.new ≡ run replayed (kept (played_of s) mem.old) (take lent events) }
 {
-    let k = at_most_eight(lent);
-    replay_on(s, mem, &events[..k])
+    replay_on(s, mem, &events[..lent.min(8)])
 }

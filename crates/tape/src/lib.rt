@@ -3,15 +3,3 @@
 
 pub mod reader;
 pub mod writer;
-
-ghost use Rattle.std.specs.Prelude.{◌≡◌, min};
-
-// How many of eight places are lent.
-pub fn at_most_eight(n: usize) -> usize
-    ensures { result ≡ min n 8 }
-{
-    if n < 8 {
-        return n;
-    }
-    8
-}

@@ -1,25 +1,23 @@
 // Reading bytes into a lent list of events.
 ghost use Rattle.std.specs.Prelude.{◌≡◌, ◌++◌, take, drop};
-ghost use Rattle.recording.specs.Scan.{reading, read};
+ghost use Rattle.recording.specs.Scan.{done_of, reading, read};
 
-use crate::at_most_eight;
 use recording::event::Event;
-use recording::reading::{Done, check, read_one};
+use recording::fault::Refused;
+use recording::reading::{check, read_one};
 
 // Reading: the bytes are checked, and then each event is put into its place.
-pub fn read(bytes: &[u8], out: &mut [Event]) -> Done
-    ensures { reading result out.new ≡ read bytes.now out.old }
+pub fn read(bytes: &[u8], out: &mut [Event]) -> Result<usize, Refused>
+    ensures { reading (done_of result) out.new ≡ read bytes.now out.old }
 {
-    let c = check(bytes, out.len());
+    let count = check(bytes, out.len())?;
     let mut at = 0;
-    let mut i = 0;
-    while i < c.count {
-        let r = read_one(bytes, at);
-        out[i] = r.event;
-        at = r.next;
-        i += 1;
+    for place in &mut out[..count] {
+        let one = read_one(bytes, at).unwrap();
+        *place = one.event;
+        at = one.next;
     }
-    c
+    Ok(count)
 }
 
 // The same, into the first of eight events by value: whoever calls it needs no walk by hand.
@@ -27,7 +25,6 @@ pub fn read_eight(bytes: &[u8], out: [Event; 8], lent: usize) -> [Event; 8]
     ensures { result ≡ (read bytes.now (take lent out)).events ++ drop lent out }
 {
     let mut es = out;
-    let k = at_most_eight(lent);
-    read(bytes, &mut es[..k]);
+    let _ = read(bytes, &mut es[..lent.min(8)]);
     es
 }

@@ -1,42 +1,49 @@
 // Writing a list of events into lent bytes.
-ghost use Rattle.std.specs.Prelude.{◌≡◌, take};
+ghost use Rattle.std.specs.Prelude.{◌≡◌, ◌≤◌, ◌++◌, length, take, drop};
 ghost use Rattle.ground.specs.Machine.{run};
-ghost use Rattle.recording.specs.Pass.{kept, passed, wrote, write};
+ghost use Rattle.recording.specs.Scan.{done_of};
+ghost use Rattle.recording.specs.Pass.{pass_of, came_of, checked_on, written, wrote, write};
 
-use crate::at_most_eight;
 use recording::event::Event;
-use recording::pass::{Pass, first_pass, pass_one, second_pass, told};
-use recording::reading::Done;
+use recording::fault::Refused;
+use recording::field::put_field;
+use recording::pass::{Pass, check_on, first_pass, told};
 
-// One pass over the events.
-pub fn pass_all(v: Pass, out: &mut [u8], events: &[Event]) -> Pass
-    ensures { kept result out.new ≡ run passed (kept v out.old) events.now }
+// The pass that checks, over the events; a fault ends it.
+fn check_all(p: Pass, events: &[Event]) -> Result<Pass, Refused>
+    ensures { came_of p.room result ≡ run checked_on (pass_of p) events.now }
 {
-    let mut w = v;
-    let mut i = 0;
-    while i < events.len() {
-        let e = events[i];
-        w = pass_one(w, out, e);
-        i += 1;
+    let mut q = p;
+    for e in events {
+        q = check_on(q, *e)?;
     }
-    w
+    Ok(q)
+}
+
+// The pass that puts, over events that have room: one field after the other.
+fn put_all(events: &[Event], out: &mut [u8])
+    requires { length (written events.now) ≤ length out.old }
+    ensures { out.new ≡ written events.now ++ drop (length (written events.now)) out.old }
+{
+    let mut at = 0;
+    for e in events {
+        at = put_field(out, at, *e);
+    }
 }
 
 // Writing: a pass that checks, and a pass that puts where nothing was at fault.
-pub fn write(events: &[Event], out: &mut [u8]) -> Done
-    ensures { wrote result out.new ≡ write events.now out.old }
+pub fn write(events: &[Event], out: &mut [u8]) -> Result<usize, Refused>
+    ensures { wrote (done_of result) out.new ≡ write events.now out.old }
 {
-    let a = first_pass(out.len());
-    let b = pass_all(a, out, events);
-    let c = second_pass(b);
-    pass_all(c, out, events);
-    told(b)
+    let p = check_all(first_pass(out.len()), events)?;
+    let count = told(p)?;
+    put_all(events, out);
+    Ok(count)
 }
 
 // The same, of the first of eight events by value: whoever calls it needs no walk by hand.
-pub fn write_eight(events: [Event; 8], lent: usize, out: &mut [u8]) -> Done
-    ensures { wrote result out.new ≡ write (take lent events) out.old }
+pub fn write_eight(events: [Event; 8], lent: usize, out: &mut [u8]) -> Result<usize, Refused>
+    ensures { wrote (done_of result) out.new ≡ write (take lent events) out.old }
 {
-    let k = at_most_eight(lent);
-    write(&events[..k], out)
+    write(&events[..lent.min(8)], out)
 }

@@ -13,11 +13,8 @@ use Rattle.std.proofs.Math.ListN.{get_or-eq_default}
 use Rattle.ground.specs.Choose.{pick}
 use Rattle.ground.specs.laws.Arrays.{tab_length}
 use Rattle.ground.specs.laws.Rows.{pick_true, pick-false}
-use Rattle.recording.specs.declared.layout.Width.{Width}
-use Rattle.recording.specs.declared.layout.Width.TheVariants.{Zero, One, Two, Four}
-use Rattle.recording.specs.declared.layout.Layout.{Layout}
+use Rattle.recording.specs.Layout.{Width, Zero, One, Two, Four, Layout, width_of, size, no_parts, layouts, layout_of, numbers_length, data_length, field_length}
 use Rattle.recording.specs.declared.event.Event.{Event}
-use Rattle.recording.specs.Layout.{width_of, size, no_parts, layouts, layout_of, numbers_length, data_length, field_length}
 use Rattle.recording.specs.Field.{bytes_of, numbers_of, mark_in, marks_of, field}
 
 pub bytes_length : (w : Width) (n : ℕ) → length (bytes_of w n) ≡ size w

@@ -5,7 +5,7 @@
 -- Assumes nothing.
 use Rattle.std.specs.Prelude.{◌≡◌, ℕ, ◌+◌, ◌*◌, ◌<◌, Bool, false, not, ◌&&◌, List, length, drop, nat_le, slice_index, slice_index_or, refl}
 use Rattle.std.proofs.Common.{sym, ◌∙◌, ap, add-zero, add-one, drop-cons, drop-drop, get_or-drop}
-use Rattle.recording.specs.declared.layout.Width.TheVariants.{Two, Four}
+use Rattle.recording.specs.Layout.{Two, Four}
 use Rattle.recording.specs.Event.{none_marked}
 use Rattle.recording.specs.Field.{number_in, marks}
 

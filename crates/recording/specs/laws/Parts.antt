@@ -5,9 +5,7 @@
 -- Assumes nothing.
 use Rattle.std.specs.Prelude.{◌≡◌, ℕ, ◌+◌, Bool, List, drop, refl}
 use Rattle.std.proofs.Common.{sym, ◌∙◌, ap, arith, drop-drop}
-use Rattle.recording.specs.declared.layout.Part.{Part}
-use Rattle.recording.specs.declared.layout.Layout.{Layout}
-use Rattle.recording.specs.Layout.{width_of, size}
+use Rattle.recording.specs.Layout.{Part, Layout, width_of, size}
 use Rattle.recording.specs.Field.{number_in, marks_in, past, past_numbers, set_at, event_of}
 
 module _ (l : Layout) (bs : List ℕ) where

@@ -8,7 +8,8 @@
 --   write_fault, write_full, write_all   which one, exactly when
 --   write_refused, write_none   what a refusal leaves
 --   Fits, write_accepts  what is accepted
---   checks_all, fault_told, run_fine, full_told   the pass that checks
+--   code_settled, check_stays, check_room, run_stays   what an event at fault, or any, leaves of it
+--   checks_all, told_bad, fault_told, run_fine, full_told   the pass that checks
 --   put_stop, put_all    the pass that puts
 --   two_passes           both, one after the other
 -- Not here: one event of a pass, in laws/Steps; reading back what is written, in laws/Undo.
@@ -23,15 +24,12 @@ use Rattle.ground.specs.Choose.{pick, row}
 use Rattle.ground.specs.Machine.{run}
 use Rattle.ground.specs.laws.Machine.{run_keeps}
 use Rattle.ground.specs.laws.Rows.{pick_true, pick-false, never}
-use Rattle.recording.specs.declared.layout.Layout.{Layout}
+use Rattle.recording.specs.Layout.{Layout, width_of, known, layout_of, numbers_length, field_length}
 use Rattle.recording.specs.declared.event.Event.{Event}
-use Rattle.recording.specs.declared.reading.Done.{Done}
-use Rattle.recording.specs.declared.pass.Pass.{Pass}
-use Rattle.recording.specs.Layout.{width_of, known, layout_of, numbers_length, field_length}
+use Rattle.recording.specs.Scan.{Done, done}
+use Rattle.recording.specs.Pass.{Pass, written, fault, full, Wrote, wrote, write, Kept, kept, first_pass, settled, counted, faulted, checked_on, may_put, passed, checked_all, second_pass, told}
 use Rattle.recording.specs.Event.{UNKNOWN-TAG, NO-ROOM, BAD-VALUE, event_fits, event_code}
 use Rattle.recording.specs.Field.{field, pasted}
-use Rattle.recording.specs.Scan.{done}
-use Rattle.recording.specs.Pass.{written, fault, full, Wrote, wrote, write, Kept, kept, first_pass, settled, counted, faulted, checked_on, may_put, passed, checked_all, second_pass, told}
 use Rattle.recording.specs.laws.Layout.{size_at_most, data_marked, data_bare, field_length_lem}
 use Rattle.recording.specs.laws.Put.{pasted_none, pasted_then}
 use Rattle.recording.specs.laws.Steps.{puts_on, checks_on, put_goes, put_stays, pasted_same}
@@ -215,7 +213,7 @@ module _ (es : List Event) (out : List ℕ) where
 -- ---- the pass that checks
 
 -- an event's own fault is never 18, so once found it stands
-code_settled : (e : Event) → (event_code e ≢ 0) → settled (event_code e) ≡ true
+pub code_settled : (e : Event) → (event_code e ≢ 0) → settled (event_code e) ≡ true
 unfolding event_code
 code_settled e c =
     let none : nat_eq (event_code e) 0 ≡ false = ne_eqb (event_code e) 0 c in
@@ -264,7 +262,7 @@ module _ (p : Pass) (e : Event) where
   abbrev checked_here : Pass
   checked_here = pick (event_code e == 0) onward (faulted p (event_code e))
 
-  check_stays : settled p.code ≡ true → checked_on p e ≡ p
+  pub check_stays : settled p.code ≡ true → checked_on p e ≡ p
   unfolding checked_on
   check_stays s = pick_true (settled p.code) p checked_here s
 
@@ -297,8 +295,14 @@ module _ (p : Pass) (e : Event) where
       let Same : Pass → Type 0 = λ q. q.puts ≡ p.puts in
       pick_both Same (settled p.code) p checked_here refl (pick_both Same (event_code e == 0) onward (faulted p (event_code e)) refl refl)
 
+  pub check_room : (checked_on p e).room ≡ p.room
+  unfolding checked_on counted
+  check_room =
+      let Same : Pass → Type 0 = λ q. q.room ≡ p.room in
+      pick_both Same (settled p.code) p checked_here refl (pick_both Same (event_code e == 0) onward (faulted p (event_code e)) refl refl)
+
 -- a state that every act leaves stands after all of them
-run_stays : {S A : Type 0} (step : S → A → S) (s : S) (xs : List A) → ((a : A) → step s a ≡ s) → run step s xs ≡ s
+pub run_stays : {S A : Type 0} (step : S → A → S) (s : S) (xs : List A) → ((a : A) → step s a ≡ s) → run step s xs ≡ s
 run_stays {S} step s xs h = run_keeps step (λ (t : S). t ≡ s) (λ t a e. ap (λ (r : S). step r a) e ∙ h a) s xs refl
 
 -- the pass that checks leaves what is lent
@@ -312,7 +316,7 @@ told_good : (p : Pass) → p.code ≡ 0 → told p ≡ done 0 0 p.at
 unfolding told
 told_good p c = pick_true (p.code == 0) (done 0 0 p.at) (done p.code p.found 0) (eq-eqb p.code 0 c)
 
-told_bad : (p : Pass) → (p.code ≢ 0) → told p ≡ done p.code p.found 0
+pub told_bad : (p : Pass) → (p.code ≢ 0) → told p ≡ done p.code p.found 0
 unfolding told
 told_bad p c = pick-false (p.code == 0) (done 0 0 p.at) (done p.code p.found 0) (ne_eqb p.code 0 c)
 

@@ -4,6 +4,7 @@
 --   read_full            nothing does, and the list is too short: 18, at the first field that has no place
 --   Answer, read_answer  with read_written of laws/Trips, these are all
 --   check_none, read-refused   a refusal counts nothing, and leaves the list as it was
+--   check_counts         what is not refused counts the fields
 -- Not here: what is at fault in one field, in laws/Codes; the calls one after the other, in laws/Calls.
 -- Assumes nothing.
 use Rattle.std.specs.Prelude.{◌≡◌, ℕ, zero, suc, ◌+◌, ◌-◌, ◌<◌, ◌≤◌, List, [], ◌∷◌, ◌++◌, length, take, drop, ◌≢◌, refl}
@@ -11,11 +12,10 @@ use Rattle.std.proofs.Common.{sym, ◌∙◌, ap, subst, append_assoc, append-ni
 use Rattle.std.proofs.Math.Decide.{ℕ_discrete, dec_le}
 use Rattle.std.proofs.Math.Seq.{drop-append_seam}
 use Rattle.recording.specs.declared.event.Event.{Event}
-use Rattle.recording.specs.declared.reading.Done.{Done}
+use Rattle.recording.specs.Scan.{Done, done, begun, scanned, checked, heard, reading, read}
 use Rattle.recording.specs.Layout.{field_length}
 use Rattle.recording.specs.Event.{NO-ROOM}
 use Rattle.recording.specs.Field.{field, tag_in, event_in, field_code}
-use Rattle.recording.specs.Scan.{done, begun, scanned, checked, heard, reading, read}
 use Rattle.recording.specs.Pass.{written}
 use Rattle.recording.specs.laws.Codes.{code_good}
 use Rattle.recording.specs.laws.Passes.{Fine}
@@ -72,6 +72,15 @@ check_none bytes room c = go (ℕ_discrete (scanned (length bytes) bytes begun).
     go (no e) h = ap (λ (d : Done). d.count) (check_fault bytes room e)
     go (yes e) (no h) = ap (λ (d : Done). d.count) (check_full bytes room e (lt_of_not-le h))
     go (yes e) (yes h) = absurd (c (ap (λ (d : Done). d.code) (check_all bytes room e h)))
+
+-- and what is not refused counts the fields that there are
+pub check_counts : (bytes : List ℕ) (room : ℕ) → (checked bytes room).code ≡ 0 → (scanned room bytes begun).count ≡ (checked bytes room).count
+check_counts bytes room c = go (ℕ_discrete (scanned (length bytes) bytes begun).code 0) (dec_le (length bytes) (scanned room bytes begun).at)
+  where
+    go : Dec ((scanned (length bytes) bytes begun).code ≡ 0) → Dec (length bytes ≤ (scanned room bytes begun).at) → (scanned room bytes begun).count ≡ (checked bytes room).count
+    go (no e) h = absurd (e (sym (ap (λ (d : Done). d.code) (check_fault bytes room e)) ∙ c))
+    go (yes e) (no h) = let full : NO-ROOM ≡ 0 = sym (ap (λ (d : Done). d.code) (check_full bytes room e (lt_of_not-le h))) ∙ c in absurd (omega (arith, full))
+    go (yes e) (yes h) = sym (ap (λ (d : Done). d.count) (check_all bytes room e h))
 
 -- and so the list is as it was
 counts_none : (bytes : List ℕ) (out : List Event) (d : Done) → checked bytes (length out) ≡ d → d.count ≡ 0 → read bytes out ≡ reading d out

@@ -3,24 +3,23 @@
 --   scan_on, scan-end    one field more, and no more
 --   one_good, one_bad    a good field, and one at fault
 --   scan_count           no more fields than were asked for
+--   scan_clean           nothing is at fault before where nothing is
 --   Step, scan_step      the three things that may stand at an offset
 --   check_fault, check_full, check_all   the three answers
---   at_good, at_bad, past_end, good_within   the event at an offset
+--   at_good, at_bad, field_here, fields_behind, past_end, good_within   the event at an offset
 -- Not here: what is read, in laws/Reads.
 -- Assumes nothing.
 use Rattle.std.specs.Prelude.{◌≡◌, ℕ, zero, suc, ◌+◌, ◌-◌, ◌<◌, ◌≤◌, Bool, true, false, ◌&&◌, List, length, take, drop, ◌==◌, ◌≢◌, nat_lt}
 use Rattle.std.proofs.Math.Path.{refl, subst}
-use Rattle.std.proofs.Common.{sym, ◌∙◌, ap, le_refl, length-drop, take_all, eqb-true, eq-eqb, ne_eqb, ltb-true, ltb-false, lt-ltb, le-ltb}
-use Rattle.std.proofs.Common.{arith}
+use Rattle.std.proofs.Common.{sym, ◌∙◌, ap, le_refl, length-drop, take_all, eqb-true, eq-eqb, ne_eqb, ltb-true, ltb-false, lt-ltb, le-ltb, arith}
+use Rattle.std.proofs.Math.Bool.{and-false}
 use Rattle.std.proofs.lemmas.Bool.{eqb-false}
 use Rattle.ground.specs.Choose.{pick}
 use Rattle.ground.specs.laws.Rows.{pick_true, pick-false}
-use Rattle.recording.specs.declared.reading.Done.{Done}
-use Rattle.recording.specs.declared.reading.One.{One}
+use Rattle.recording.specs.Scan.{Done, One, done, begun, going, scan_one, scanned, checked, one_at}
 use Rattle.recording.specs.Layout.{field_length}
 use Rattle.recording.specs.Event.{NO-ROOM, no_event}
 use Rattle.recording.specs.Field.{tag_in, event_in, field_code}
-use Rattle.recording.specs.Scan.{done, begun, going, scan_one, scanned, checked, one_at}
 use Rattle.recording.specs.laws.Codes.{code_good}
 
 module _ (bytes : List ℕ) where
@@ -97,6 +96,25 @@ module _ (bytes : List ℕ) where
           bad e (scan_on n (done 0 at k) (goes at k (ltb-true at (length bytes) t)) ∙ ap (λ (r : Done). scanned n bytes r) (one_bad (done 0 at k) e)
           ∙ scan-end n (stopped (done 0 at k)) (ap (λ (b : Bool). b && nat_lt at (length bytes)) v))
 
+  -- where nothing is at fault up to the end, nothing is in the first so many fields
+  pub scan_clean : (n m : ℕ) (d : Done) → d.code ≡ 0 → length bytes ≤ d.at + n → (scanned n bytes d).code ≡ 0 → (scanned m bytes d).code ≡ 0
+  unfolding scanned
+  scan_clean n zero d z h e = z
+  scan_clean zero (suc m) d z h e =
+      ap (λ (r : Done). r.code) (scan-end (suc m) d (ap (λ (t : Bool). (d.code == 0) && t) (le-ltb d.at (length bytes) (omega (arith, h))) ∙ and-false (d.code == 0))) ∙ z
+  scan_clean (suc n) (suc m) d z h e = go (going bytes d) refl (field_code (drop d.at bytes) == 0) refl (scan_clean n m (onward d) refl)
+    where
+      go : (t : Bool) → going bytes d ≡ t → (u : Bool) → (field_code (drop d.at bytes) == 0) ≡ u → (length bytes ≤ (onward d).at + n → (scanned n bytes (onward d)).code ≡ 0 → (scanned m bytes (onward d)).code ≡ 0) → (scanned (suc m) bytes d).code ≡ 0
+      go false t u v more = ap (λ (r : Done). r.code) (scan-end (suc m) d t) ∙ z
+      go true t true v more =
+          let good = one_good d (eqb-true (field_code (drop d.at bytes)) 0 v) in
+          ap (λ (r : Done). r.code) (scan_on m d t ∙ ap (λ (r : Done). scanned m bytes r) good)
+          ∙ more (omega (arith, h)) (sym (ap (λ (r : Done). r.code) (scan_on n d t ∙ ap (λ (r : Done). scanned n bytes r) good)) ∙ e)
+      go true t false v more =
+          let x = eqb-false (field_code (drop d.at bytes)) 0 v in
+          let still : scanned n bytes (stopped d) ≡ stopped d = scan-end n (stopped d) (ap (λ (b : Bool). b && nat_lt d.at (length bytes)) v) in
+          absurd (x (sym (ap (λ (r : Done). r.code) (scan_on n d t ∙ ap (λ (r : Done). scanned n bytes r) (one_bad d x) ∙ still)) ∙ e))
+
   -- ---- the answer
 
   abbrev whole : Done
@@ -140,6 +158,23 @@ module _ (bytes : List ℕ) where
   pub at_bad : (at : ℕ) → (field_code (drop at bytes) ≢ 0) → one_at bytes at ≡ none at
   unfolding one_at
   at_bad at e = pick-false (field_code (drop at bytes) == 0) (found at) (none at) (ne_eqb (field_code (drop at bytes)) 0 e)
+
+  -- so many fields come, and this is not the last: a good one stands here, and the others behind it
+  pub field_here : (n at k m : ℕ) → (scanned (suc n) bytes (done 0 at k)).count ≡ m → k < m → field_code (drop at bytes) ≡ 0
+  field_here n at k m e h = go (scan_step n at k)
+    where
+      go : Step n at k → field_code (drop at bytes) ≡ 0
+      go (ended l r) = absurd (omega (arith, h, e, ap (λ (d : Done). d.count) r))
+      go (good f r) = f
+      go (bad f r) = absurd (omega (arith, h, e, ap (λ (d : Done). d.count) r))
+
+  pub fields_behind : (n at k m : ℕ) → (scanned (suc n) bytes (done 0 at k)).count ≡ m → k < m → (scanned n bytes (done 0 (one_at bytes at).next (k + 1))).count ≡ m
+  fields_behind n at k m e h = go (scan_step n at k)
+    where
+      go : Step n at k → (scanned n bytes (done 0 (one_at bytes at).next (k + 1))).count ≡ m
+      go (ended l r) = absurd (omega (arith, h, e, ap (λ (d : Done). d.count) r))
+      go (good f r) = ap (λ (o : One). (scanned n bytes (done 0 o.next (k + 1))).count) (at_good at f) ∙ sym (ap (λ (d : Done). d.count) r) ∙ e
+      go (bad f r) = absurd (omega (arith, h, e, ap (λ (d : Done). d.count) r))
 
   -- past the end no field stands
   pub past_end : (at : ℕ) → length bytes ≤ at → field_code (drop at bytes) ≢ 0

@@ -8,22 +8,15 @@
 -- Not here: lists of them, in laws/Trips.
 -- Assumes nothing.
 use Rattle.std.specs.Prelude.{◌≡◌, ℕ, zero, suc, ◌+◌, ◌*◌, ◌/◌, ◌%◌, ◌<◌, ◌≤◌, Bool, true, false, ◌&&◌, ◌||◌, leb, List, [], ◌∷◌, ◌++◌, length, get_or, drop, replicate, ◌==◌, nat_eq, nat_le, slice_index, slice_index_or, refl}
-use Rattle.std.proofs.Common.{sym, ◌∙◌, true≢false, le_of_suc-le-suc, not-suc-le-zero, arith, length-append, drop-drop}
+use Rattle.std.proofs.Common.{sym, ◌∙◌, true≢false, le_of_suc-le-suc, not-suc-le-zero, arith, length-append, drop-drop, append_assoc, leb-true, le-leb}
 use Rattle.std.proofs.Math.Path.{ap}
-use Rattle.std.proofs.Common.{append_assoc}
 use Rattle.std.proofs.Math.ListN.{length-drop, get_or-append}
-use Rattle.std.proofs.Common.{leb-true, le-leb}
 use Rattle.ground.specs.Choose.{bit}
 use Rattle.ground.specs.Tab.{tab}
 use Rattle.ground.specs.laws.Rows.{and-true}
 use Rattle.ground.specs.laws.Arrays.{tab_length, get_d_tab, tab_ext, tab_self}
-use Rattle.recording.specs.declared.layout.Width.{Width}
-use Rattle.recording.specs.declared.layout.Width.TheVariants.{Zero, One, Two, Four}
-use Rattle.recording.specs.declared.layout.Part.{Part}
-use Rattle.recording.specs.declared.layout.Part.TheVariants.{Unused, YesNo, Kind, Byte, Address, Word, Number}
-use Rattle.recording.specs.declared.layout.Layout.{Layout}
+use Rattle.recording.specs.Layout.{Width, Zero, One, Two, Four, Part, Unused, YesNo, Kind, Byte, Address, Word, Number, Layout, width_of, size, most, known, layout_of, numbers_length, data_length, field_length}
 use Rattle.recording.specs.declared.event.Event.{Event}
-use Rattle.recording.specs.Layout.{width_of, size, most, known, layout_of, numbers_length, data_length, field_length}
 use Rattle.recording.specs.Event.{numbers_fit, none_marked, event_fits, event_code}
 use Rattle.recording.specs.Field.{bytes_of, mark_in, marks_of, numbers_of, field, number_in, marks_in, marks, marks_fit, tag_in, length_in, past, past_numbers, event_of, event_in, read_fits, field_code}
 use Rattle.recording.specs.laws.Layout.{field_length_lem, data_most, numbers_within, data_marked, data_bare}

@@ -12,18 +12,16 @@ use Rattle.std.proofs.Common.{◌∙◌, ap, eq-eqb, ne_eqb}
 use Rattle.ground.specs.Choose.{pick}
 use Rattle.ground.specs.laws.Rows.{pick_true, pick-false}
 use Rattle.ground.specs.laws.Arrays.{take_most, drop_most}
-use Rattle.unit.specs.declared.reply.Replied.{Replied}
+use Rattle.unit.specs.Reply.{Replied, World, world, Outcome, outcome}
 use Rattle.unit.specs.Record.{no_mux}
-use Rattle.unit.specs.Reply.{World, world, Outcome, outcome}
 use Rattle.unit.specs.Refusals.{WORDS, BAD-MEMORY}
 use Rattle.calls.specs.Calls.{step}
 use Rattle.calls.specs.Events as Calls
 use Rattle.recording.specs.declared.event.Event.{Event}
 use Rattle.recording.specs.Event.{event_code}
 use Rattle.recording.specs.Pass.{Kept}
-use Rattle.replay.specs.declared.play.Played.{Played}
+use Rattle.replay.specs.Replay.{Played, room, put, happening, played, still, wrote, called, plays, begun, standing, replayed}
 use Rattle.replay.specs.Calls.{call_of}
-use Rattle.replay.specs.Replay.{room, put, happening, played, still, wrote, called, plays, begun, standing, replayed}
 
 module _ (w : World) (xs : List ℕ) (e : Event) where
   abbrev good : Outcome

@@ -15,11 +15,7 @@ use Rattle.std.proofs.Math.ListN.{get_or-append}
 use Rattle.std.proofs.lemmas.List.{drop-append-le}
 use Rattle.ground.specs.Choose.{pick, row, first_of}
 use Rattle.ground.specs.laws.Arrays.{tab_ext}
-use Rattle.recording.specs.declared.layout.Width.{Width}
-use Rattle.recording.specs.declared.layout.Width.TheVariants.{Zero, One, Two, Four}
-use Rattle.recording.specs.declared.layout.Part.{Part}
-use Rattle.recording.specs.declared.layout.Layout.{Layout}
-use Rattle.recording.specs.Layout.{width_of, size, known, layout_of, numbers_length, data_length, field_length}
+use Rattle.recording.specs.Layout.{Width, Zero, One, Two, Four, Part, Layout, width_of, size, known, layout_of, numbers_length, data_length, field_length}
 use Rattle.recording.specs.Event.{UNKNOWN-TAG, WRONG-LENGTH, CUT-SHORT, BAD-VALUE}
 use Rattle.recording.specs.Field.{number_in, marks_in, marks, marks_fit, tag_in, length_in, past, past_numbers, event_of, event_in, read_fits, field_code}
 use Rattle.recording.specs.laws.Layout.{data_marked, numbers_within}

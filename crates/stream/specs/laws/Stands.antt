@@ -9,8 +9,7 @@
 -- Assumes nothing.
 use Rattle.std.specs.Prelude.{◌≡◌, ℕ, zero, suc, ◌+◌, ◌-◌, ◌%◌, ◌^◌, ◌<◌, ◌≤◌, Bool, true, false, ◌&&◌, List, [], ◌∷◌, ◌++◌, length, take, drop, ◌==◌, ◌≢◌, nat_lt, slice_set}
 use Rattle.std.proofs.Math.Path.{refl, sym, ap, subst}
-use Rattle.std.proofs.Common.{◌∙◌, add-zero, add-one, arith, length-append, length-set, take-append-drop, length-take-le, take-suc-set, drop-drop, drop_at, eqb-true, eq-eqb, ne_eqb, lt-ltb}
-use Rattle.std.proofs.Common.{append-nil}
+use Rattle.std.proofs.Common.{◌∙◌, add-zero, add-one, arith, length-append, length-set, take-append-drop, length-take-le, take-suc-set, drop-drop, drop_at, eqb-true, eq-eqb, ne_eqb, lt-ltb, append-nil}
 use Rattle.std.proofs.Math.Nat.{mod-eq_of_lt}
 use Rattle.std.proofs.Math.ListN.{length-drop, get_or-append}
 use Rattle.std.proofs.Math.Seq.{append_snoc}
@@ -19,16 +18,13 @@ use Rattle.ground.specs.Choose.{pick}
 use Rattle.ground.specs.Machine.{run, gather}
 use Rattle.ground.specs.laws.Rows.{pick_true, pick-false}
 use Rattle.recording.specs.declared.event.Event.{Event}
-use Rattle.recording.specs.declared.reading.Done.{Done}
-use Rattle.recording.specs.declared.reading.One.{One}
+use Rattle.recording.specs.Scan.{Done, One, done, scanned, heard}
 use Rattle.recording.specs.Layout.{field_length}
 use Rattle.recording.specs.Event.{CUT-SHORT}
 use Rattle.recording.specs.Field.{tag_in, event_in, field_code}
-use Rattle.recording.specs.Scan.{done, scanned, heard}
 use Rattle.recording.specs.laws.Codes.{code_good}
 use Rattle.recording.specs.laws.Scan.{scan_on, scan-end, goes, stops, one_good, Step, ended, good, bad, scan_step, at_good}
-use Rattle.stream.specs.declared.Stream.{Stream}
-use Rattle.stream.specs.Stream.{LONGEST, counted, judged, took, ready, event, news, gives}
+use Rattle.stream.specs.Stream.{Stream, LONGEST, counted, judged, took, ready, event, news, gives}
 use Rattle.stream.specs.laws.Steps.{took_first, took_on, took_none, grown_longer}
 use Rattle.stream.specs.laws.Front.{field_most, event_front, code_front, cut_room}
 

@@ -1,9 +1,8 @@
 -- `recording::field::put_field` meets its contract: head, numbers and set, one after the other.
 use Rattle.std.proofs.Common.{◌≡◌, true, [], ◌++◌, length, sym, ap, ◌∙◌, arith}
-use Rattle.recording.specs.Layout.{numbers_length, data_length, layout_of}
-use Rattle.recording.specs.declared.layout.Layout.{Layout}
+use Rattle.recording.specs.Layout.{Layout, layout_in, numbers_length, data_length, layout_of}
 use Rattle.recording.specs.Field.{bytes_of, numbers_of, marks_of, field}
-use Rattle.recording.specs.laws.Put.{put_last, pasted_none}
+use Rattle.recording.specs.laws.Put.{put_then, put_none}
 use Rattle.recording.specs.laws.Layout.{numbers_length_lem, numbers_within, data_marked}
 use Rattle.recording.proofs.field.put_field.Goals as goal
 
@@ -13,7 +12,8 @@ put_numbers-end-requires c = let l = c.layout_of-l.ensures in let n = c.put_head
 
 pub put_marks-requires : goal.put_marks-requires
 unfolding bytes_of
-put_marks-requires c = let e = c.args.e in
+put_marks-requires c =
+    let e = c.args.e in
     let l = c.layout_of-l.ensures in
     let h = c.put_head-head.ensures in
     let n = c.put_numbers-end.ensures in
@@ -25,23 +25,23 @@ unfolding field bytes_of numbers_of
 returns-then-l c =
     let a = c.args in
     let e = a.e in
-    let k = c.layout_of-l.result in
+    let k = layout_in c.layout_of-l.result in
     let l = c.layout_of-l.ensures in
     let h = c.put_head-head.ensures in
     let n = c.put_numbers-end.ensures in
     rw (← l, ← c.data_length.ensures.is, c.if-l.true)
-    (put_last _ (numbers_of k e ++ marks_of true e.set) a.at a.out.now _ _ _ (omega (arith, c.requires)) h
-    (put_last _ (marks_of true e.set) _ _ _ _ _ (omega (arith, c.requires, h.next, h.same, ap data_length l, numbers_length_lem k e, numbers_within k)) n c.put_marks.ensures))
+    (put_then _ (numbers_of k e ++ marks_of true e.set) a.at a.out.now _ _ _ _ (omega (arith, c.requires)) h
+    (put_then _ (marks_of true e.set) _ _ _ _ _ _ (omega (arith, c.requires, h.next, h.same, ap data_length l, numbers_length_lem k e, numbers_within k)) n c.put_marks.ensures))
 
-pub returns-else-l : goal.returns-else-l
+pub returns : goal.returns
 unfolding field bytes_of marks_of numbers_of
-returns-else-l c =
+returns c =
     let a = c.args in
     let e = a.e in
-    let k = c.layout_of-l.result in
+    let k = layout_in c.layout_of-l.result in
     let l = c.layout_of-l.ensures in
     let h = c.put_head-head.ensures in
     let n = c.put_numbers-end.ensures in
     rw (← l, ← c.data_length.ensures.is, c.if-l.false)
-    (put_last _ (numbers_of k e ++ []) a.at a.out.now _ _ _ (omega (arith, c.requires)) h
-    (put_last _ [] _ _ _ _ _ (omega (arith, c.requires, h.next, h.same, ap data_length l, numbers_length_lem k e, numbers_within k)) n (sym (pasted_none c.put_numbers-end.result _))))
+    (put_then _ (numbers_of k e ++ []) a.at a.out.now _ _ _ _ (omega (arith, c.requires)) h
+    (put_then _ [] _ _ _ _ _ _ (omega (arith, c.requires, h.next, h.same, ap data_length l, numbers_length_lem k e, numbers_within k)) n (put_none c.put_numbers-end.result _)))

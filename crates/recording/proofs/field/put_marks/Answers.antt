@@ -1,42 +1,37 @@
--- `recording::field::put_marks` meets its contract. The loop's invariant: the codes passed are put.
-use Rattle.std.proofs.Common.{◌≡◌, ℕ, [], sym, ap, ◌∙◌, subst, add-zero, arith, rules}
+-- `recording::field::put_marks` meets its contract: each byte is its code's word.
+use Rattle.std.proofs.Common.{◌≡◌, ℕ, ◌+◌, ◌-◌, ◌<◌, ◌≤◌, Bool, true, false, List, ◌++◌, length, take, get_or, refl, ap, ◌∙◌, arith, rules, tests, drop-drop}
+use Rattle.std.specs.Int.{from_bool}
+use borrow.Rule.Slice.PartMut.{put_mid}
+use Rattle.ground.specs.Choose.{bit}
 use Rattle.ground.specs.Tab.{tab}
-use Rattle.recording.specs.Field.{Put, mark_in, marks_of, pasted}
-use Rattle.recording.specs.laws.Put.{put_none, put_rule}
+use Rattle.ground.specs.laws.Arrays.{tab_length}
+use Rattle.ground.specs.laws.Filled.{by_rule}
+use Rattle.recording.specs.Field.{mark_in, marks_of, pasted, Put}
+use Rattle.recording.specs.laws.Put.{pasted_length}
 use Rattle.recording.proofs.field.put_marks.Goals as goal
 
-pub loop-k-init : goal.loop-k-init
-unfolding tab
-loop-k-init c = let a = c.args in (omega arith, subst (λ (n : ℕ). Put [] a.at a.out.now n a.out.now) (sym (add-zero a.at)) (put_none a.at a.out.now), search rules)
+-- a part of the list that holds what is put
+put_part : (xs ys : List ℕ) (at n : ℕ) (out : List ℕ) → ys ≡ xs → length xs ≡ n → at + n ≤ length out → Put xs at out (at + n) (put_mid at (at + n - at) out ys)
+put_part xs ys at n out e long h =
+    let k : at + n - at ≡ length xs = omega (arith, long) in
+    let is : put_mid at (at + n - at) out ys ≡ pasted at xs out =
+    ap (λ (zs : List ℕ). put_mid at (at + n - at) out zs) e ∙ ap (λ (m : ℕ). put_mid at m out xs) k ∙ ap (λ (zs : List ℕ). take at out ++ (xs ++ zs)) (drop-drop (length xs) at out) in
+    record { next = omega (arith, long); bytes = is; same = ap length is ∙ pasted_length at xs out (omega (arith, h, long)) }
 
-pub bounds-set-k : goal.bounds-set-k
-bounds-set-k c = omega arith
-
-pub mark-requires : goal.mark-requires
-mark-requires c = search rules
-
-pub overflow_add-out : goal.overflow_add-out
-overflow_add-out c = omega (arith, c.requires)
-
-pub bounds-out-at : goal.bounds-out-at
-bounds-out-at c = omega (arith, c.requires, c.loop-k.invariant.1.same)
-
-pub overflow_add-k : goal.overflow_add-k
-overflow_add-k c = search rules
-
-pub loop-k-smaller : goal.loop-k-smaller
-loop-k-smaller c = search rules
-
-pub loop-k-preserved : goal.loop-k-preserved
-loop-k-preserved c =
-    let l = c.loop-k in
-    let a = c.args in
-    (omega arith, rw c.mark.ensures (put_rule (mark_in a.set) a.at a.out.now l.out l.k (omega (arith, c.requires, c.loop-k-test.true)) l.invariant.1), l.invariant.2)
+same_bit : (b : Bool) → from_bool b ≡ bit b
+unfolding bit
+same_bit true = refl
+same_bit false = refl
 
 pub returns : goal.returns
 unfolding marks_of
 returns c =
-    let l = c.loop-k in
     let a = c.args in
-    let e : l.k ≡ 128 = omega (arith, c.loop-k-test.false) in
-    l.invariant.1.bytes ∙ ap (λ (n : ℕ). pasted a.at (tab n (mark_in a.set)) a.out.now) e
+    let h = c.map.ensures.items in
+    let each : (k : ℕ) → k < 128 → get_or c.map.result k 0 ≡ mark_in a.set k =
+    λ k l. let said = h.at k false 0 l in
+    let is : get_or c.map.result k 0 ≡ from_bool (get_or a.set k false) = search (rules, tests) in is ∙ same_bit (get_or a.set k false)
+    in
+    put_part (tab 128 (mark_in a.set)) c.copy_from_slice.new.self a.at 128 a.out.now
+    (c.copy_from_slice.ensures.after ∙ by_rule (mark_in a.set) 128 c.map.result 0 h.long each)
+    (tab_length 128 (mark_in a.set)) c.requires

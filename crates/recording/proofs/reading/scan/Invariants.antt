@@ -1,10 +1,7 @@
 -- `recording::reading::scan` meets its contract. The loop's invariant: what is left to read comes to the whole.
-use Rattle.std.proofs.Common.{◌≡◌, ◌+◌, ◌≤◌}
-use Rattle.recording.specs.Scan.{begun, scanned}
+use Rattle.std.proofs.Common.{◌≡◌, ◌-◌, ◌≤◌}
+use Rattle.recording.specs.Scan.{done, begun, scanned}
 use Rattle.recording.proofs.reading.scan.Given as goal
 
-abbrev pub invariant-loop-left : goal.invariant-loop-left
-invariant-loop-left l = (scanned l.left l.bytes l.d ≡ scanned l.most l.bytes begun) × (l.d.count + l.left ≤ l.most)
-
-abbrev pub decreases-loop-left : goal.decreases-loop-left
-decreases-loop-left l = l.left
+abbrev pub invariant-loop : goal.invariant-loop
+invariant-loop l = (scanned (l.most - l.counter) l.bytes (done 0 l.r.at l.r.count) ≡ scanned l.most l.bytes begun) × (l.r.count ≤ l.counter)

@@ -1,0 +1,15 @@
+-- The two passes of the definitions, one after the other, come to the call.
+use Rattle.std.proofs.Common.{◌≡◌, ℕ, ◌*◌, ◌<◌, ◌^◌, List, length, ◌∙◌, ap}
+use Rattle.ground.specs.Machine.{run}
+use Rattle.recording.specs.declared.event.Event.{Event}
+use Rattle.recording.specs.Scan.{Done}
+use Rattle.recording.specs.Pass.{Pass, Kept, kept, passed, first_pass, second_pass, told, wrote, write}
+use Rattle.recording.specs.laws.Passes.{two_passes}
+
+-- what the two passes leave is what is written
+pub both_passes : (es : List Event) (out : List ℕ) → length es * 148 < 2 ^ 63 → (f p s r : Pass) (ys zs : List ℕ) (d : Done) → f ≡ first_pass (length out) → kept p ys ≡ run passed (kept f out) es → s ≡ second_pass p → kept r zs ≡ run passed (kept s ys) es → d ≡ told p → wrote d zs ≡ write es out
+both_passes es out small f p s r ys zs d e₀ e₁ e₂ e₃ e₄ =
+    ap (λ (x : Done). wrote x zs) e₄ ∙ ap (λ (k : Kept Pass). wrote (told p) k.lent) e₃ ∙ ap (λ (q : Pass). wrote (told p) (run passed (kept q ys) es).lent) e₂
+    ∙ ap (λ (k : Kept Pass). wrote (told k.state) (run passed (kept (second_pass k.state) k.lent) es).lent) e₁
+    ∙ ap (λ (q : Pass). wrote (told (run passed (kept q out) es).state) (run passed (kept (second_pass (run passed (kept q out) es).state) (run passed (kept q out) es).lent) es).lent) e₀
+    ∙ two_passes es out small
