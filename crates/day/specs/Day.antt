@@ -1,4 +1,5 @@
 -- A school day played again, byte by byte of its recording.
+--   Day, day_of, KeptDay   the day so far, and with the memory beside it
 --   dawn, with_stream, with_unit   the day at its start, and with another part
 --   told, after, happened   one event played: its answer, the unit, the memory, and where the lines began
 --   taken, on          one byte of the recording, and many
@@ -9,17 +10,27 @@ use Rattle.std.specs.Prelude.{List, ℕ, replicate}
 use mathlib.Core.List.{foldl}
 use Rattle.ground.specs.Choose.{pick}
 use Rattle.unit.specs.declared.mux.Mux.{Mux}
-use Rattle.unit.specs.declared.reply.Reply.{Reply}
+use Rattle.unit.specs.Reply.{Reply}
 use Rattle.unit.specs.Record.{no_mux}
-use Rattle.unit.specs.Reply.{World, world, Looked}
+use Rattle.unit.specs.Reply.{Reply, World, world, Looked}
 use Rattle.recording.specs.declared.event.Event.{Event}
 use Rattle.recording.specs.Pass.{Kept, kept}
-use Rattle.stream.specs.declared.Stream.{Stream}
-use Rattle.stream.specs.Stream.{begun, took, ready, event}
+use Rattle.stream.specs.Stream.{Stream, begun, took, ready, event}
 use Rattle.replay.specs.Replay.{plays}
-use Rattle.day.specs.declared.Day.{Day}
-use Rattle.day.specs.declared.names.View.{View}
-use Rattle.day.specs.Names.{viewed, begins}
+use Rattle.day.specs.Names.{View, viewed, begins}
+
+-- the day so far: the recording as far as it is read, the unit, and where the lines began
+pub record Day : Type 0 where
+  pub stream : Stream
+  pub unit : Mux
+  pub begin : List ℕ
+
+abbrev pub day_of : Stream → Mux → List ℕ → Day
+day_of s u begin = record { stream = s; unit = u; begin = begin }
+
+-- with the memory beside it
+abbrev pub KeptDay : Type 0
+KeptDay = Kept Day
 
 -- nothing is read yet: a record of zeros
 abbrev pub dawn : Day

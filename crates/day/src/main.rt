@@ -1,194 +1,159 @@
 // A school day played again, in plain words: reads a recording on standard input, in parts, plays each event from a record of zeros and a memory of zeros, and prints what was asked and what came of it.
+// Whether a line could be printed changes nothing of a day, so what printing answers is let go.
 #![tactic(auto)]
 
 mod names;
 mod say;
 
 ghost use mathlib.Core.List.{foldl};
-ghost use Rattle.std.specs.Prelude.{◌≡◌, ◌≤◌, length, IfOk};
-ghost use Rattle.driver.specs.Text.{Turned, Heard};
-ghost use Rattle.unit.specs.Reply.{world, looked};
+ghost use Rattle.std.specs.Prelude.{◌≡◌};
+ghost use Rattle.driver.specs.Text.{HeardFrom};
+ghost use Rattle.unit.specs.Reply.{world, looked, replied_of};
 ghost use Rattle.recording.specs.Pass.{kept};
-ghost use Rattle.day.specs.Day.{dawn, with_stream, with_unit, told, after, happened, taken, on, same};
+ghost use Rattle.day.specs.Day.{dawn, told, happened, taken};
 
-use crate::names::{View, begins, say_changes, viewed};
-use crate::say::{say_end, say_event, say_progress};
-use driver::read::count;
-use io::write_all;
+use crate::names::{Changes, begins, changed, viewed};
+use crate::say::{Ended, Played};
 use recording::event::Event;
 use replay::play::play;
-use std::io::{Read, Result, Stderr};
+use std::io::{self, IsTerminal, Read, Stderr};
+use std::marker::Model;
 use stream::Stream;
 use telling::look::seen;
 use unit::mux::Mux;
+use unit::refusal::Refusal;
 use unit::reply::Replied;
 use unit::setup::no_mux;
+use words::byte::Memory;
 
-// The day so far: the recording as far as it is read, the unit, and where the lines began.
-#[derive(Clone, Copy)]
+// The day so far: the recording as far as it is read, the unit on its memory, and where the lines began. Clauses see what is kept of it from byte to byte, with the memory beside.
+#[derive(Drop)]
 struct Day {
     stream: Stream,
     unit: Mux,
+    memory: Memory,
     begin: [u16; 128],
 }
 
-// The reading of a day: whether more may come, whether a read failed, and the day.
-#[derive(Clone, Copy)]
-struct Reader {
-    going: bool,
-    failed: bool,
-    day: Day,
-}
+impl Model for Day {
+    ghost use Rattle.recording.specs.Pass.{kept};
+    ghost use Rattle.stream.specs.Stream.{stream_of};
+    ghost use Rattle.day.specs.Day.{KeptDay, day_of};
 
-// A day of which nothing is read yet.
-fn dawn() -> Day
-    ensures { result ≡ dawn }
-{
-    Day {
-        stream: stream::begin(),
-        unit: no_mux(),
-        begin: [0; 128],
-    }
-}
+    ghost Value = { KeptDay };
 
-// The day with one more byte of its recording.
-fn with_stream(d: Day, s: Stream) -> Day
-    ensures { result ≡ with_stream d s }
-{
-    let mut e = d;
-    e.stream = s;
-    e
-}
-
-// The day with another unit, and its lines.
-fn with_unit(d: Day, u: Mux, begin: [u16; 128]) -> Day
-    ensures { result ≡ with_unit d u begin }
-{
-    let mut e = d;
-    e.unit = u;
-    e.begin = begin;
-    e
+    ghost view = { λ d. kept (day_of (stream_of d.stream) d.unit d.begin) d.memory };
 }
 
 // One event, played with a list of 4096 zeros, and said.
-fn said(u: Mux, mem: &mut [u16], e: Event) -> Replied
-    requires { length mem.old ≡ 32768 }
-    ensures { looked result mem.new ≡ told (world u mem.old) e }
+#[tactic(auto, unfolding(crate::specs::Day::told))]
+fn said(rt: &impl Print, u: Mux, mem: &mut Memory, e: Event) -> Result<Replied, Refusal>
+    ensures { looked (replied_of u result) mem.new ≡ told (world u mem.old) e }
 {
     let before = seen(u.setting, mem, u.pos);
     let mut list = [0u16; 4096];
-    let r = play(u, mem, &mut list, e);
-    say_event(e, r, mem, &list, before);
-    r
-}
-
-// The day after an event, by what it answered and left, and by what the control blocks held before and after it.
-fn after(d: Day, e: Event, r: Replied, was: View, is: View) -> Day
-    ensures { result ≡ after d e.tag r.reply.code r.mux was is }
-{
-    let begin = d.begin;
-    let a = was.ibp;
-    let b = is.ibp;
-    with_unit(d, r.mux, begins(e.tag, r.reply.code, begin, a, b))
-}
-
-// One event, and what it did to the lines.
-fn happen(d: Day, mem: &mut [u16], e: Event) -> Day
-    requires { length mem.old ≡ 32768 }
-    ensures { kept result mem.new ≡ happened (kept d mem.old) e }
-{
-    let u = d.unit;
-    let begin = d.begin;
-    let was = viewed(u.setting, mem);
-    let r = said(u, mem, e);
-    let v = r.mux;
-    let is = viewed(v.setting, mem);
-    say_changes(e.tag, v.setting, mem, begin, was, is);
-    after(d, e, r, was, is)
-}
-
-// One byte of the recording; where it makes a field whole, its event happens.
-fn take_byte(d: Day, mem: &mut [u16], b: u8) -> Day
-    requires { length mem.old ≡ 32768 }
-    ensures { kept result mem.new ≡ taken (kept d mem.old) b }
-{
-    let s = stream::take(d.stream, b);
-    let e = with_stream(d, s);
-    if stream::ready(s) {
-        return happen(e, mem, stream::event(s));
-    }
-    e
-}
-
-// A part of the recording, byte by byte.
-fn take(d: Day, mem: &mut [u16], text: &[u8]) -> Day
-    requires { length mem.old ≡ 32768 }
-    ensures { kept result mem.new ≡ foldl taken (kept d mem.old) text.now }
-{
-    let mut e = d;
-    let mut i = 0;
-    while i < text.len() {
-        e = take_byte(e, mem, text[i]);
-        i += 1;
-    }
-    e
-}
-
-// Reads once from the standard input into buf: how many bytes came, 0 at the end of the recording, or that reading failed.
-fn received(rt: &impl Input, buf: &mut [u8]) -> Result<usize>
-    ensures { IfOk result (λ n. n ≤ length buf.new) }
-{
-    let mut reader = rt.reader();
-    reader.read(buf)
-}
-
-// Reads once and takes what came. Keeping the loop out of it lets the buffer be its own.
-fn turn(rt: &impl Input, errors: Stderr, r: Reader, mem: &mut [u16]) -> Reader
-    requires { length mem.old ≡ 32768 }
-    ensures { Turned on same (kept r.day mem.old) (kept result.day mem.new) }
-{
-    let mut q = r;
-    let mut buf = io::large_buffer();
-    let got = received(rt, &mut buf);
-    let failed = got.is_err();
-    let n = count(got);
-    if n == 0 {
-        q.going = false;
-        q.failed = failed;
-        return q;
-    }
-    let d = take(r.day, mem, &buf[..n]);
-    let s = d.stream;
-    say_progress(errors, s.at, s.count);
-    q.day = d;
-    q
-}
-
-// All of the recording. The turns are counted down, from a number that no run uses up, since nothing says that the input ends.
-fn read_all(rt: &impl Input, errors: Stderr, mem: &mut [u16]) -> Reader
-    requires { length mem.old ≡ 32768 }
-    ensures { Heard taken (kept dawn mem.old) (kept result.day mem.new) }
-{
-    let mut r = Reader {
-        going: true,
-        failed: false,
-        day: dawn(),
+    let answered = play(u, mem, &mut list, e);
+    let said = Played {
+        event: e,
+        answered,
+        mem,
+        list: &list,
+        before,
     };
-    let mut turns = u64::MAX;
-    while turns > 0 && r.going {
-        r = turn(rt, errors, r, mem);
-        turns -= 1;
+    let _ = println!(rt; "{said}");
+    answered
+}
+
+impl Day {
+    // A day of which nothing is read yet.
+    fn dawn(memory: Memory) -> Day
+        ensures { result ≡ kept dawn memory }
+    {
+        Day {
+            stream: stream::begin(),
+            unit: no_mux(),
+            memory,
+            begin: [0; 128],
+        }
     }
-    r
+
+    // One event, and what it did to the lines.
+    #[tactic(auto, unfolding(crate::specs::Day::happened))]
+    fn happen(&mut self, rt: &impl Print, e: Event)
+        ensures { self.new ≡ happened self.old e }
+    {
+        let was = viewed(self.unit.setting, &self.memory);
+        let answered = said(rt, self.unit, &mut self.memory, e);
+        self.unit = answered.map_or(self.unit, |r| r.mux);
+        let is = viewed(self.unit.setting, &self.memory);
+        let changes = changed(self.begin, was, is);
+        let told = Changes {
+            event: e,
+            setting: self.unit.setting,
+            mem: &self.memory,
+            changes,
+        };
+        let _ = print!(rt; "{told}");
+        self.begin = begins(e, &answered, changes);
+    }
+
+    // One byte of the recording; where it makes a field whole, its event happens.
+    #[tactic(auto, unfolding(crate::specs::Day::taken, ground::specs::Choose::pick))]
+    fn take_byte(&mut self, rt: &impl Print, b: u8)
+        ensures { self.new ≡ taken self.old b }
+    {
+        self.stream = stream::take(self.stream, b);
+        if stream::ready(self.stream) {
+            self.happen(rt, stream::event(self.stream));
+        }
+    }
+
+    // A part of the recording, byte by byte.
+    fn take(&mut self, rt: &impl Print, text: &[u8])
+        ensures { self.new ≡ foldl taken self.old text.now }
+    {
+        for b in text {
+            self.take_byte(rt, *b);
+        }
+    }
+
+    // How far the reading is, where whoever waits sees it.
+    fn say_progress(&self, errors: Stderr) {
+        if errors.is_terminal() {
+            let _ = println!(errors;
+                "{} bytes, {} events so far",
+                self.stream.at, self.stream.count
+            );
+        }
+    }
+
+    // All of the recording, as it comes, or the error of a read that failed. The turns have a last one, which no run reaches, since nothing says that the input ends.
+    // Driver's reader serves no program that says how far it is, or that a read failed.
+    fn read_all<R: Read>(
+        &mut self,
+        reader: &mut R,
+        rt: &impl Print,
+        errors: Stderr,
+    ) -> io::Result<()>
+        ensures { HeardFrom (R.remaining reader.old) (R.remaining reader.new) taken self.old self.new }
+    {
+        let mut buf = [0u8; 65536];
+        for _ in 0..u64::MAX {
+            let n = reader.read(&mut buf)?;
+            if n == 0 {
+                break;
+            }
+            self.take(rt, &buf[..n]);
+            self.say_progress(errors);
+        }
+        Ok(())
+    }
 }
 
 fn main(rt: HostRuntime) {
-    let mut mem = [0u16; 32768];
-    let r = read_all(&rt, rt.stderr(), &mut mem);
-    let d = r.day;
-    if r.failed {
-        write_all(1, b"reading failed\n");
-        return;
-    }
-    say_end(stream::end(d.stream));
+    let mut day = Day::dawn([0; 32768]);
+    let _ = match day.read_all(&mut rt.reader(), &rt, rt.stderr()) {
+        Ok(()) => println!(rt; "{}", Ended(stream::end(day.stream))),
+        Err(_) => println!(rt; "reading failed"),
+    };
 }

@@ -1,163 +1,158 @@
 // The lines that pupils type: where each began in its buffer, and what stands there so far.
-ghost use Rattle.std.specs.Prelude.{◌≡◌, ◌<◌, length};
-ghost use Rattle.day.specs.Names.{column, viewed, moved, rewritten, begins};
+ghost use Rattle.std.specs.Prelude.{◌≡◌};
+ghost use Rattle.day.specs.Names.{view_of, begins_of, was_of, is_of, look_of, viewed, moved, begins, answer_code};
 
-use io::write_all;
-use replay::play::{HOST_WRITE, SWEEP};
+use recording::event::Event;
+use recording::tag::Tag;
+use std::{array, fmt};
 use telling::look::word_of;
-use telling::say::{say_bytes, say_number};
-use telling::turn::say_in_icw;
+use telling::say::Bytes;
+use telling::turn::InIcw;
 use unit::mux::Setting;
+use unit::refusal::Refusal;
+use unit::reply::Replied;
+use words::byte::Memory;
 use words::codes::{IBP, ICW};
 
-// The tag of a setup.
-const SETUP: u8 = 1;
+// The words of a port that are looked at: its input pointer and its ICW.
+#[derive(Clone, Copy, PartialEq, Eq)]
+pub struct Look {
+    pub ibp: u16,
+    pub icw: u16,
+}
 
-// Word k of the control block of each port, a place past the last port too.
-fn column(s: Setting, mem: &[u16], k: usize) -> [u16; 128]
-    requires { k < 8 }
-    ensures { result ≡ column s mem.now k }
+// What stands in port p's.
+fn look_at(s: Setting, mem: &Memory, p: u32) -> Look
+    ensures { result ≡ look_of s mem.now p }
 {
-    let mut all = [0u16; 128];
-    let mut p = 0;
-    while p < 128 {
-        all[p] = word_of(s, mem, p as u32, k);
-        p += 1;
+    Look {
+        ibp: word_of(s, mem, p, IBP),
+        icw: word_of(s, mem, p, ICW),
     }
-    all
 }
 
-// Where a line began, after its pointer was one thing and became another: a pointer that the host wrote begins a line.
-fn begun(begin: u16, was: u16, is: u16) -> u16
-    ensures { result ≡ moved begin was is }
+// What stands in those of every port, a place past the last port too.
+pub fn viewed(s: Setting, mem: &Memory) -> [Look; 128]
+    ensures { view_of result ≡ viewed s mem.now }
 {
-    if was == is {
-        return begin;
-    }
-    is
+    array::from_fn(|p| look_at(s, mem, p as u32))
 }
 
-// Where the lines began, after the host wrote a word.
-fn rewritten(begin: [u16; 128], was: [u16; 128], is: [u16; 128]) -> [u16; 128]
-    ensures { result ≡ rewritten begin was is }
-{
-    let mut all = [0u16; 128];
-    let mut p = 0;
-    while p < 128 {
-        all[p] = begun(begin[p], was[p], is[p]);
-        p += 1;
-    }
-    all
-}
-
-// Where the lines began, after an event: anew after a setup that is not refused.
-pub fn begins(tag: u8, code: u8, begin: [u16; 128], was: [u16; 128], is: [u16; 128]) -> [u16; 128]
-    ensures { result ≡ begins tag code begin was is }
-{
-    if (tag == SETUP) & (code == 0) {
-        return is;
-    }
-    if tag == HOST_WRITE {
-        return rewritten(begin, was, is);
-    }
-    begin
-}
-
-// The last 64 bytes at most of a line.
-fn say_text(mem: &[u16], begin: u16, last: u16)
-    requires { length mem.now ≡ 32768 }
-{
-    if begin as u32 + 64 < last as u32 {
-        write_all(1, b"..");
-        say_bytes(mem, last - 64, last);
-        return;
-    }
-    say_bytes(mem, begin, last);
-}
-
-// What stands in a line so far.
-fn say_line(mem: &[u16], p: u64, begin: u16, last: u16)
-    requires { length mem.now ≡ 32768 }
-{
-    write_all(1, b"    port ");
-    say_number(p);
-    write_all(1, b", the line so far: '");
-    say_text(mem, begin, last);
-    write_all(1, b"'\n");
-}
-
-// A character that is in ICW.
-fn say_icw(p: u64, icw: u16, codes: [bool; 128]) {
-    write_all(1, b"    port ");
-    say_number(p);
-    write_all(1, b": ");
-    say_in_icw(icw, codes);
-    write_all(1, b"\n");
-}
-
-// A port's input pointer and its ICW.
+// What an event did to a port: where its line began before it, and what stood in its words before and after it.
 #[derive(Clone, Copy)]
-struct Pair {
-    ibp: u16,
-    icw: u16,
+pub struct Change {
+    pub begin: u16,
+    pub was: Look,
+    pub is: Look,
 }
 
-// A port after a call, if it is one: its line where its pointer moved, and what a sweep put into its ICW.
-fn say_port(s: Setting, p: u32, begin: u16, was: Pair, is: Pair, mem: &[u16], swept: bool)
-    requires { length mem.now ≡ 32768 }
+impl Change {
+    // Where the line begins after a host write: a pointer that the host wrote begins a line.
+    #[tactic(auto, unfolding(crate::specs::Names::moved, ground::specs::Choose::pick))]
+    fn begun(self) -> u16
+        ensures { result ≡ moved self.begin self.was.ibp self.is.ibp }
+    {
+        if self.was.ibp == self.is.ibp {
+            self.begin
+        } else {
+            self.is.ibp
+        }
+    }
+}
+
+// What an event did to every port.
+pub fn changed(begin: [u16; 128], was: [Look; 128], is: [Look; 128]) -> [Change; 128]
+    ensures begin { begins_of result ≡ begin }
+    ensures was { was_of result ≡ view_of was }
+    ensures is { is_of result ≡ view_of is }
 {
-    if s.ports <= p {
-        return;
-    }
-    if was.ibp != is.ibp {
-        say_line(mem, p as u64, begin, is.ibp);
-    }
-    if swept & (was.icw != is.icw) {
-        let codes = s.special;
-        say_icw(p as u64, is.icw, codes);
-    }
+    array::from_fn(|p| Change {
+        begin: begin[p],
+        was: was[p],
+        is: is[p],
+    })
 }
 
-// The words of every port that are looked at: its input pointer and its ICW.
+// Where the lines begin, after an event: anew after a setup that is not refused.
+pub fn begins(e: Event, answered: &Result<Replied, Refusal>, changes: [Change; 128]) -> [u16; 128]
+    ensures { result ≡ begins e.tag (answer_code answered.now) (begins_of changes) (was_of changes).ibp (is_of changes).ibp }
+{
+    if (e.tag == Tag::Setup as u8) & answered.is_ok() {
+        return changes.map(|c| c.is.ibp);
+    }
+    if e.tag == Tag::HostWrite as u8 {
+        return changes.map(|c| c.begun());
+    }
+    changes.map(|c| c.begin)
+}
+
+// What an event did to the lines, with the setting and the memory that it left.
 #[derive(Clone, Copy)]
-pub struct View {
-    pub ibp: [u16; 128],
-    pub icw: [u16; 128],
+pub struct Changes<'a> {
+    pub event: Event,
+    pub setting: Setting,
+    pub mem: &'a Memory,
+    pub changes: [Change; 128],
 }
 
-// What stands in them.
-pub fn viewed(s: Setting, mem: &[u16]) -> View
-    ensures { result ≡ viewed s mem.now }
-{
-    View {
-        ibp: column(s, mem, IBP),
-        icw: column(s, mem, ICW),
+impl Changes<'_> {
+    // What stands in a port's line so far, at most its last 64 bytes, where its pointer moved.
+    fn write_line<W: fmt::Write>(
+        &self,
+        f: &mut fmt::Formatter<W>,
+        p: usize,
+        c: Change,
+    ) -> fmt::Result {
+        let mem = self.mem;
+        let last = c.is.ibp;
+        if c.was.ibp == last {
+            return Ok(());
+        }
+        let cut = u32::from(c.begin) + 64 < u32::from(last);
+        let before = if cut { last - 64 } else { c.begin };
+        let dots = if cut { ".." } else { "" };
+        writeln!(
+            f,
+            "    port {p}, the line so far: '{dots}{}'",
+            Bytes { mem, before, last }
+        )
+    }
+
+    // What a sweep put into a port's ICW.
+    fn write_icw<W: fmt::Write>(
+        &self,
+        f: &mut fmt::Formatter<W>,
+        p: usize,
+        c: Change,
+    ) -> fmt::Result {
+        let icw = c.is.icw;
+        if c.was.icw == icw {
+            return Ok(());
+        }
+        let codes = self.setting.special;
+        writeln!(f, "    port {p}: {}", InIcw { icw, codes })
+    }
+
+    // What a call did to each port.
+    fn write_ports<W: fmt::Write>(&self, f: &mut fmt::Formatter<W>, swept: bool) -> fmt::Result {
+        let ports = self.setting.ports as usize;
+        for (p, c) in self.changes.iter().enumerate().take(ports) {
+            self.write_line(f, p, *c)?;
+            if swept {
+                self.write_icw(f, p, *c)?;
+            }
+        }
+        Ok(())
     }
 }
 
-// What a call did to the lines; a setup and a host write did nothing to them.
-pub fn say_changes(tag: u8, s: Setting, mem: &[u16], begin: [u16; 128], was: View, is: View)
-    requires { length mem.now ≡ 32768 }
-{
-    if (tag == SETUP) | (tag == HOST_WRITE) {
-        return;
-    }
-    let a = was.ibp;
-    let b = is.ibp;
-    let c = was.icw;
-    let d = is.icw;
-    let swept = tag == SWEEP;
-    let mut p = 0;
-    while p < 128 {
-        let x = Pair {
-            ibp: a[p],
-            icw: c[p],
-        };
-        let y = Pair {
-            ibp: b[p],
-            icw: d[p],
-        };
-        say_port(s, p as u32, begin[p], x, y, mem, swept);
-        p += 1;
+// A setup and a host write did nothing to them.
+impl fmt::Display for Changes<'_> {
+    fn fmt<W: fmt::Write>(&self, f: &mut fmt::Formatter<W>) -> fmt::Result {
+        match Tag::try_from(self.event.tag) {
+            Ok(Tag::Setup | Tag::HostWrite) => Ok(()),
+            Ok(Tag::Sweep) => self.write_ports(f, true),
+            _ => self.write_ports(f, false),
+        }
     }
 }

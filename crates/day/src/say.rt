@@ -1,128 +1,96 @@
 // One event in words, and the last line.
-ghost use Rattle.std.specs.Prelude.{◌≡◌, length};
-
-use io::{print_decimal, write_all};
 use recording::event::Event;
-use recording::reading::Done;
+use recording::fault::{Fault, Refused};
+use recording::tag::Tag;
 use replay::call::call_of;
-use replay::play::HOST_WRITE;
-use std::io::{IsTerminal, Stderr};
+use std::fmt;
 use telling::look::Before;
-use telling::say::say_number;
-use telling::told::say_call;
-use telling::turn::say_inspected;
+use telling::told::Told;
+use telling::turn::Inspected;
+use unit::refusal::Refusal;
 use unit::reply::{Replied, Turn};
+use words::byte::Memory;
 
-// The tag of an inspection.
-const INSPECTION: u8 = 7;
-
-// A word in octal, six digits.
-fn say_word(w: u32) {
-    let top = [
-        48 + (w / 32768 % 2) as u8,
-        48 + (w / 4096 % 8) as u8,
-        48 + (w / 512 % 8) as u8,
-    ];
-    write_all(1, &top);
-    write_all(
-        1,
-        &[
-            48 + (w / 64 % 8) as u8,
-            48 + (w / 8 % 8) as u8,
-            48 + (w % 8) as u8,
-        ],
-    );
+// An event that was played: what was answered and left, the memory and the list after it, and what the block of the port inspected held before it.
+#[derive(Clone, Copy)]
+pub struct Played<'a> {
+    pub event: Event,
+    pub answered: Result<Replied, Refusal>,
+    pub mem: &'a Memory,
+    pub list: &'a [u16],
+    pub before: Before,
 }
 
-// A word that the host wrote.
-fn say_write(e: Event) {
-    write_all(1, b"host write, word ");
-    say_number(e.first as u64);
-    write_all(1, b": octal ");
-    say_word(e.second);
-}
-
-// An inspection, by what it served; that of a stopped unit names no port.
-fn say_turned(t: Turn, r: Replied, mem: &[u16], before: Before)
-    requires { length mem.now ≡ 32768 }
-{
-    let v = r.mux;
-    match t {
-        Turn::Nothing => {
-            write_all(1, b"an inspection: the unit is stopped");
+impl Played<'_> {
+    // An inspection, by what it served; that of a stopped unit names no port.
+    fn write_inspected<W: fmt::Write>(
+        &self,
+        f: &mut fmt::Formatter<W>,
+        r: &Replied,
+    ) -> fmt::Result {
+        if let Turn::Nothing = r.reply.answer.turn {
+            return write!(f, "an inspection: the unit is stopped");
         }
-        _ => {
-            say_inspected(r.reply.answer, v.setting, v.irq, mem, before);
+        let told = Inspected {
+            answer: r.reply.answer,
+            setting: r.mux.setting,
+            irq: r.mux.irq,
+            mem: self.mem,
+            before: self.before,
+        };
+        write!(f, "{told}")
+    }
+
+    // A call and what it answered.
+    fn write_call<W: fmt::Write>(&self, f: &mut fmt::Formatter<W>) -> fmt::Result {
+        let told = Told {
+            call: call_of(self.event),
+            answered: self.answered,
+            list: self.list,
+        };
+        write!(f, "{told}")
+    }
+}
+
+impl fmt::Display for Played<'_> {
+    fn fmt<W: fmt::Write>(&self, f: &mut fmt::Formatter<W>) -> fmt::Result {
+        let e = self.event;
+        match (Tag::try_from(e.tag), &self.answered) {
+            (Ok(Tag::HostWrite), _) => write!(
+                f,
+                "host write, word {}: octal {:06o}",
+                e.first,
+                e.second % 65536
+            ),
+            (Ok(Tag::Inspection), Ok(r)) => self.write_inspected(f, r),
+            _ => self.write_call(f),
         }
     }
-}
-
-// A call and what it answered.
-fn say_asked(e: Event, r: Replied, mem: &[u16], list: &[u16], before: Before)
-    requires { length mem.now ≡ 32768 }
-{
-    if (e.tag == INSPECTION) & (r.reply.code == 0) {
-        let a = r.reply.answer;
-        let t = a.turn;
-        say_turned(t, r, mem, before);
-        return;
-    }
-    say_call(call_of(e), r.reply, r.mux, list);
-}
-
-// One event on a line of its own.
-pub fn say_event(e: Event, r: Replied, mem: &[u16], list: &[u16], before: Before)
-    requires { length mem.now ≡ 32768 }
-{
-    if e.tag == HOST_WRITE {
-        say_write(e);
-    } else {
-        say_asked(e, r, mem, list, before);
-    }
-    write_all(1, b"\n");
 }
 
 // Why a field is refused.
-fn say_why(code: u8) {
-    match code {
-        13 => {
-            write_all(1, b": no field has this tag\n");
-        }
-        14 => {
-            write_all(1, b": a field of this tag has another length\n");
-        }
-        15 => {
-            write_all(1, b": the recording ends within this field\n");
-        }
-        _ => {
-            write_all(
-                1,
-                b": a part of this field has a value that it cannot have\n",
-            );
-        }
+fn why(fault: Fault) -> &'static str {
+    match fault {
+        Fault::UnknownTag => "no field has this tag",
+        Fault::WrongLength => "a field of this tag has another length",
+        Fault::CutShort => "the recording ends within this field",
+        Fault::BadValue | Fault::NoRoom => "a part of this field has a value that it cannot have",
     }
 }
 
 // The last line: how many events there were, or which field is refused, by its number and the offset of its tag.
-pub fn say_end(d: Done) {
-    if d.code == 0 {
-        say_number(d.count as u64);
-        write_all(1, b" events, all read\n");
-        return;
-    }
-    write_all(1, b"refused ");
-    say_number(d.code as u64);
-    write_all(1, b" at offset ");
-    say_number(d.at as u64);
-    say_why(d.code);
-}
+#[derive(Clone, Copy)]
+pub struct Ended(pub Result<usize, Refused>);
 
-// How far the reading is, where whoever waits sees it.
-pub fn say_progress(errors: Stderr, bytes: usize, events: usize) {
-    if errors.is_terminal() {
-        print_decimal(2, bytes as u64);
-        write_all(2, b" bytes, ");
-        print_decimal(2, events as u64);
-        write_all(2, b" events so far\n");
+impl fmt::Display for Ended {
+    fn fmt<W: fmt::Write>(&self, f: &mut fmt::Formatter<W>) -> fmt::Result {
+        match self.0 {
+            Ok(count) => write!(f, "{count} events, all read"),
+            Err(Refused { fault, at }) => {
+                let number = u8::from(fault);
+                let why = why(fault);
+                write!(f, "refused {number} at offset {at}: {why}")
+            }
+        }
     }
 }

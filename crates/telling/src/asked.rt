@@ -1,152 +1,103 @@
 // What a call asks.
-use crate::say::{say_number, say_octal};
 use calls::call::{Act, Call, What};
 use interrupt::Kind;
-use io::write_all;
 use lines::signal::Signal;
 use processor::orders::Order;
+use std::fmt;
 use unit::mux::Setting;
 use words::special::special_in;
 
 // A kind of unit.
-fn say_kind(k: Kind) {
+fn kind_words(k: Kind) -> &'static str {
     match k {
-        Kind::Eds8 => {
-            write_all(1, b"an EDS-8");
-        }
-        Kind::MightyMux => {
-            write_all(1, b"a Mighty Mux");
-        }
+        Kind::Eds8 => "an EDS-8",
+        Kind::MightyMux => "a Mighty Mux",
     }
 }
 
 // What the set says of the glottal stop.
-fn say_glottal(codes: [bool; 128]) {
+fn glottal_words(codes: [bool; 128]) -> &'static str {
     if special_in(codes, 0o174) {
-        write_all(1, b", octal 174 special");
-        return;
-    }
-    write_all(1, b", octal 174 ordinary");
-}
-
-// A setup.
-fn say_setting(s: Setting) {
-    let k = s.kind;
-    let codes = s.special;
-    write_all(1, b"setup of ");
-    say_kind(k);
-    write_all(1, b", blocks of ");
-    say_number(s.block as u64);
-    write_all(1, b" words, ");
-    say_number(s.ports as u64);
-    write_all(1, b" ports, base ");
-    say_number(s.base as u64);
-    say_glottal(codes);
-}
-
-// A mark, where it is on.
-fn say_mark(on: bool, words: &[u8]) {
-    if on {
-        write_all(1, words);
-    }
-}
-
-// A character that arrives.
-fn say_typed(p: u32, c: u8, parity: bool, brk: bool) {
-    write_all(1, b"typed at port ");
-    say_number(p as u64);
-    write_all(1, b": octal ");
-    say_octal(c);
-    say_mark(parity, b", parity mark");
-    say_mark(brk, b", break mark");
-}
-
-// A Device Status line.
-fn say_status(p: u32, level: bool) {
-    write_all(1, b"Device Status of port ");
-    say_number(p as u64);
-    if level {
-        write_all(1, b": 1");
-        return;
-    }
-    write_all(1, b": 0");
-}
-
-// What a line does.
-fn say_signal(p: u32, signal: Signal) {
-    match signal {
-        Signal::Arrival { c, parity, brk } => {
-            say_typed(p, c, parity, brk);
-        }
-        Signal::TransmitterEmpty => {
-            write_all(1, b"transmitter empty at port ");
-            say_number(p as u64);
-        }
-        Signal::DeviceStatus { level } => {
-            say_status(p, level);
-        }
+        "special"
+    } else {
+        "ordinary"
     }
 }
 
 // What the processor does.
-fn say_order(o: Order) {
+fn order_words(o: Order) -> &'static str {
     match o {
-        Order::Reset => {
-            write_all(1, b"reset");
+        Order::Reset => "reset",
+        Order::Iopls => "IOPLS",
+        Order::Start => "START",
+        Order::Doc => "DOC",
+        Order::Dob => "DOB",
+        Order::Dia => "DIA",
+        Order::Dias => "DIAS",
+        Order::Tick => "a tick of the clock",
+    }
+}
+
+// What a setup asks.
+fn write_setting<W: fmt::Write>(f: &mut fmt::Formatter<W>, s: Setting) -> fmt::Result {
+    let kind = kind_words(s.kind);
+    let glottal = glottal_words(s.special);
+    write!(
+        f,
+        "setup of {kind}, blocks of {} words, {} ports, base {}, octal 174 {glottal}",
+        s.block, s.ports, s.base
+    )
+}
+
+// A mark, where it is on.
+fn mark(on: bool, words: &'static str) -> &'static str {
+    if on { words } else { "" }
+}
+
+// What a line does.
+fn write_signal<W: fmt::Write>(
+    f: &mut fmt::Formatter<W>,
+    port: u32,
+    signal: Signal,
+) -> fmt::Result {
+    match signal {
+        Signal::Arrival { c, parity, brk } => {
+            let parity = mark(parity, ", parity mark");
+            let brk = mark(brk, ", break mark");
+            write!(f, "typed at port {port}: octal {c:03o}{parity}{brk}")
         }
-        Order::Iopls => {
-            write_all(1, b"IOPLS");
-        }
-        Order::Start => {
-            write_all(1, b"START");
-        }
-        Order::Doc => {
-            write_all(1, b"DOC");
-        }
-        Order::Dob => {
-            write_all(1, b"DOB");
-        }
-        Order::Dia => {
-            write_all(1, b"DIA");
-        }
-        Order::Dias => {
-            write_all(1, b"DIAS");
-        }
-        Order::Tick => {
-            write_all(1, b"a tick of the clock");
+        Signal::TransmitterEmpty => write!(f, "transmitter empty at port {port}"),
+        Signal::DeviceStatus { level } => {
+            write!(f, "Device Status of port {port}: {}", u8::from(level))
         }
     }
 }
 
 // One thing asked of the unit that stands.
-fn say_act(a: Act) {
-    match a {
-        Act::Line { port, signal } => {
-            say_signal(port, signal);
-        }
-        Act::Processor { order } => {
-            say_order(order);
-        }
-        Act::Inspect => {
-            write_all(1, b"an inspection");
+#[derive(Clone, Copy)]
+pub struct Doing(pub Act);
+
+impl fmt::Display for Doing {
+    fn fmt<W: fmt::Write>(&self, f: &mut fmt::Formatter<W>) -> fmt::Result {
+        match self.0 {
+            Act::Line { port, signal } => write_signal(f, port, signal),
+            Act::Processor { order } => write!(f, "{}", order_words(order)),
+            Act::Inspect => write!(f, "an inspection"),
         }
     }
 }
 
-// What a call asks, on a line that goes on.
-pub fn say_asked(c: Call) {
-    let w = c.what;
-    let s = c.setting;
-    match w {
-        What::Setup => {
-            say_setting(s);
-        }
-        What::Do { act } => {
-            say_act(act);
-        }
-        What::Sweep { n } => {
-            write_all(1, b"a sweep of ");
-            say_number(n as u64);
+// What a call asks.
+#[derive(Clone, Copy)]
+pub struct Asked(pub Call);
+
+impl fmt::Display for Asked {
+    fn fmt<W: fmt::Write>(&self, f: &mut fmt::Formatter<W>) -> fmt::Result {
+        let c = self.0;
+        match c.what {
+            What::Setup => write_setting(f, c.setting),
+            What::Do { act } => write!(f, "{}", Doing(act)),
+            What::Sweep { n } => write!(f, "a sweep of {n}"),
         }
     }
 }

@@ -1,4 +1,6 @@
 // Words of control blocks, of any setting and any memory.
+#![tactic(auto, unfolding(unit::specs::Record::block_at))]
+
 ghost use Rattle.std.specs.Prelude.{◌≡◌, ◌<◌, ◌+◌, ◌*◌};
 ghost use Rattle.telling.specs.Look.{word_of, seen};
 
@@ -19,10 +21,7 @@ pub fn word_of(s: Setting, mem: &[u16], p: u32, k: usize) -> u16
     ensures { result ≡ word_of s mem.now p k }
 {
     let at = place_of(s.base, s.block, p, k);
-    if at < mem.len() {
-        return mem[at];
-    }
-    0
+    mem.get(at).copied().unwrap_or(0)
 }
 
 // What port p's block holds before an inspection: ICW, OCW and IBP.

@@ -1,44 +1,35 @@
-// Numbers, bytes and characters.
-ghost use Rattle.std.specs.Prelude.{◌≡◌, length};
-
-use io::{print_decimal, write_all};
-use words::byte::fetch;
-
-// A number.
-pub fn say_number(n: u64) {
-    print_decimal(1, n);
-}
-
-// A byte in octal, three digits.
-pub fn say_octal(b: u8) {
-    write_all(1, &[48 + b / 64, 48 + b / 8 % 8, 48 + b % 8]);
-}
+// Characters and bytes of the memory, as a terminal shows them.
+use std::fmt;
+use words::byte::{Memory, fetch};
 
 // A character, without the bit that 7-bit ASCII mode sets; one that a terminal would act on is told in octal.
-fn say_bare(b: u8) {
-    let c = b % 128;
-    if (31 < c) & (c < 127) {
-        write_all(1, &[c]);
-        return;
-    }
-    write_all(1, b"\\");
-    say_octal(c);
-}
+#[derive(Clone, Copy)]
+pub struct Character(pub u8);
 
-// A character in quotes.
-pub fn say_character(b: u8) {
-    write_all(1, b"'");
-    say_bare(b);
-    write_all(1, b"'");
+impl fmt::Display for Character {
+    fn fmt<W: fmt::Write>(&self, f: &mut fmt::Formatter<W>) -> fmt::Result {
+        let c = self.0 % 128;
+        if (31 < c) & (c < 127) {
+            write!(f, "{}", char::from(c))
+        } else {
+            write!(f, "\\{c:03o}")
+        }
+    }
 }
 
 // The bytes after one byte pointer, up to another.
-pub fn say_bytes(mem: &[u16], before: u16, last: u16)
-    requires { length mem.now ≡ 32768 }
-{
-    let mut at = before;
-    while at < last {
-        at += 1;
-        say_bare(fetch(mem, at));
+#[derive(Clone, Copy)]
+pub struct Bytes<'a> {
+    pub mem: &'a Memory,
+    pub before: u16,
+    pub last: u16,
+}
+
+impl fmt::Display for Bytes<'_> {
+    fn fmt<W: fmt::Write>(&self, f: &mut fmt::Formatter<W>) -> fmt::Result {
+        for at in self.before..self.last {
+            write!(f, "{}", Character(fetch(self.mem, at + 1)))?;
+        }
+        Ok(())
     }
 }

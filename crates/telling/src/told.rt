@@ -1,95 +1,77 @@
 // What a call asked and what it answered.
-use crate::asked::say_asked;
-use crate::say::{say_character, say_number};
+use crate::asked::Asked;
+use crate::say::Character;
 use calls::call::{Act, Call, What};
-use io::write_all;
 use processor::orders::Order;
-use unit::mux::Mux;
-use unit::reply::Reply;
+use std::fmt;
+use unit::refusal::Refusal;
+use unit::reply::{Replied, Reply};
 
 // The word that the processor read, and the interrupt flag after it.
-fn say_read(value: u16, flag: bool) {
-    write_all(1, b" reads ");
-    say_number(value as u64);
-    if flag {
-        write_all(1, b", the flag stays on");
-        return;
-    }
-    write_all(1, b", the flag is off");
+#[derive(Clone, Copy)]
+pub struct Read {
+    pub value: u16,
+    pub flag: bool,
 }
 
-// What an order answered: DIA and DIAS a word, the others nothing.
-fn say_ordered(o: Order, value: u16, flag: bool) {
-    match o {
-        Order::Dia => {
-            say_read(value, flag);
+impl fmt::Display for Read {
+    fn fmt<W: fmt::Write>(&self, f: &mut fmt::Formatter<W>) -> fmt::Result {
+        let left = if self.flag { "stays on" } else { "is off" };
+        write!(f, "reads {}, the flag {left}", self.value)
+    }
+}
+
+// A call with what it answered and left, or why it was refused, and the list that it was lent.
+#[derive(Clone, Copy)]
+pub struct Told<'a> {
+    pub call: Call,
+    pub answered: Result<Replied, Refusal>,
+    pub list: &'a [u16],
+}
+
+// What one thing asked of the unit answered: DIA and DIAS a word, the others nothing that is told here.
+fn write_done<W: fmt::Write>(f: &mut fmt::Formatter<W>, act: Act, r: &Replied) -> fmt::Result {
+    match act {
+        Act::Processor {
+            order: Order::Dia | Order::Dias,
+        } => {
+            let value = r.reply.value;
+            let flag = r.mux.irq.flag;
+            write!(f, " {}", Read { value, flag })
         }
-        Order::Dias => {
-            say_read(value, flag);
-        }
-        _ => {}
+        _ => Ok(()),
     }
 }
 
-// What one thing asked of the unit answered, an inspection apart.
-fn say_done(a: Act, value: u16, flag: bool) {
-    if let Act::Processor { order } = a {
-        say_ordered(order, value, flag);
+// A sweep: how many inspections it made, and the bytes that it handed over, in the places of its list that it used.
+fn write_swept<W: fmt::Write>(f: &mut fmt::Formatter<W>, r: &Reply, list: &[u16]) -> fmt::Result {
+    let made = r.made;
+    let used = r.used;
+    write!(f, ": made {made}, handed over {used}")?;
+    for w in list.iter().take(used as usize) {
+        let sent = Character((w % 256) as u8);
+        write!(f, ", port {} '{sent}'", w / 256)?;
     }
+    Ok(())
 }
 
-// A byte that was handed over with its port, where the place was used.
-fn say_place(used: bool, w: u16) {
-    if used {
-        write_all(1, b", port ");
-        say_number((w / 256) as u64);
-        write_all(1, b" ");
-        say_character((w % 256) as u8);
-    }
-}
-
-// The bytes that a sweep handed over: the places of its list that it used.
-fn say_list(list: &[u16], used: usize) {
-    let mut i = 0;
-    while i < list.len() {
-        say_place(i < used, list[i]);
-        i += 1;
-    }
-}
-
-// A sweep: how many inspections it made, and what it handed over.
-fn say_swept(r: Reply, list: &[u16]) {
-    write_all(1, b": made ");
-    say_number(r.made as u64);
-    write_all(1, b", handed over ");
-    say_number(r.used as u64);
-    say_list(list, r.used as usize);
-}
-
-// What a call answered; of the list, the places that it used.
-fn say_told(w: What, r: Reply, u: Mux, list: &[u16]) {
-    if r.code != 0 {
-        write_all(1, b": refused with ");
-        say_number(r.code as u64);
-        return;
-    }
-    let i = u.irq;
-    match w {
-        What::Setup => {
-            write_all(1, b": accepted");
-        }
-        What::Do { act } => {
-            say_done(act, r.value, i.flag);
-        }
-        What::Sweep { n } => {
-            say_swept(r, list);
+impl Told<'_> {
+    // What the call answered.
+    fn write_answer<W: fmt::Write>(&self, f: &mut fmt::Formatter<W>, r: &Replied) -> fmt::Result {
+        match self.call.what {
+            What::Setup => write!(f, ": accepted"),
+            What::Do { act } => write_done(f, act, r),
+            What::Sweep { .. } => write_swept(f, &r.reply, self.list),
         }
     }
 }
 
-// What a call asked and what it answered, on a line that goes on.
-pub fn say_call(c: Call, r: Reply, u: Mux, list: &[u16]) {
-    let w = c.what;
-    say_asked(c);
-    say_told(w, r, u, list);
+impl fmt::Display for Told<'_> {
+    fn fmt<W: fmt::Write>(&self, f: &mut fmt::Formatter<W>) -> fmt::Result {
+        write!(f, "{}", Asked(self.call))?;
+        match &self.answered {
+            Ok(r) => self.write_answer(f, r),
+            Err(refusal) => write!(f, ": refused with {}", u8::from(*refusal)),
+        }
+    }
 }

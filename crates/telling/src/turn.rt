@@ -1,40 +1,35 @@
 // What an inspection did.
-ghost use Rattle.std.specs.Prelude.{◌≡◌, not, ◌&&◌, eqb, length};
+ghost use Rattle.std.specs.Prelude.{◌≡◌, not, ◌&&◌, eqb};
 ghost use Rattle.words.specs.Field.{get};
 ghost use Rattle.words.specs.Codes.{INDONE, INMO, in_none, OUTDONE, OUTMO, out_control};
 
 use crate::look::{Before, word_of};
-use crate::say::{say_character, say_number, say_octal};
-use interrupt::{Irq, Kind, Service, dia};
-use io::write_all;
+use crate::say::Character;
+use interrupt::{Irq, Service, dia};
+use std::fmt;
 use unit::mux::Setting;
 use unit::reply::{Answer, Turn};
-use words::byte::fetch;
-use words::codes::{CHARACTER, IBP, ICW, IN_NONE, INDONE, INMO, OUT_CONTROL, OUTDONE, OUTMO};
+use words::byte::{Memory, fetch};
+use words::codes::{CHARACTER, IBP, ICW, INDONE, OUTDONE};
 use words::field::{get, is_set};
+use words::modes::{InputMode, OutputMode, input_mode, output_mode};
 use words::special::special_in;
 
-// The character that ICW holds, as the unit's set has it.
-pub fn say_in_icw(icw: u16, codes: [bool; 128]) {
-    let b = get(icw, CHARACTER) as u8;
-    if special_in(codes, b) {
-        write_all(1, b"special ");
-        say_octal(b);
-    } else {
-        say_character(b);
-    }
-    write_all(1, b" in ICW");
+// The character that an ICW holds, as the unit's set has it.
+#[derive(Clone, Copy)]
+pub struct InIcw {
+    pub icw: u16,
+    pub codes: [bool; 128],
 }
 
-// A byte that was stored.
-fn say_stored(mem: &[u16], ibp: u16, sent: bool)
-    requires { length mem.now ≡ 32768 }
-{
-    say_character(fetch(mem, ibp));
-    write_all(1, b" stored at byte ");
-    say_number(ibp as u64);
-    if sent {
-        write_all(1, b", echoed");
+impl fmt::Display for InIcw {
+    fn fmt<W: fmt::Write>(&self, f: &mut fmt::Formatter<W>) -> fmt::Result {
+        let b = get(self.icw, CHARACTER) as u8;
+        if special_in(self.codes, b) {
+            write!(f, "special {b:03o} in ICW")
+        } else {
+            write!(f, "'{}' in ICW", Character(b))
+        }
     }
 }
 
@@ -42,110 +37,96 @@ fn say_stored(mem: &[u16], ibp: u16, sent: bool)
 fn is_unasked(icw: u16) -> bool
     ensures { result ≡ not (eqb (get INDONE icw) 1) && eqb (get INMO icw) in_none }
 {
-    let done = is_set(icw, INDONE);
-    !done & (get(icw, INMO) == IN_NONE)
-}
-
-// An input turn that stored nothing: the character was dropped where none was asked for, otherwise it is in ICW.
-fn say_unstored(was: u16, icw: u16, codes: [bool; 128]) {
-    if is_unasked(was) {
-        write_all(1, b"dropped, none is asked for");
-        return;
-    }
-    say_in_icw(icw, codes);
-}
-
-// What an input turn did: the pointer stepped where a byte was stored.
-fn say_input(s: Setting, mem: &[u16], p: u32, before: Before, sent: bool)
-    requires { length mem.now ≡ 32768 }
-{
-    let codes = s.special;
-    let ibp = word_of(s, mem, p, IBP);
-    write_all(1, b"input ");
-    if ibp == before.ibp {
-        say_unstored(before.icw, word_of(s, mem, p, ICW), codes);
-        return;
-    }
-    say_stored(mem, ibp, sent);
+    !is_set(icw, INDONE) & (input_mode(icw) == InputMode::NoInput)
 }
 
 // Whether OCW asks for port control: OUTDONE clear and mode 10.
 fn is_control(ocw: u16) -> bool
     ensures { result ≡ not (eqb (get OUTDONE ocw) 1) && eqb (get OUTMO ocw) out_control }
 {
-    let done = is_set(ocw, OUTDONE);
-    !done & (get(ocw, OUTMO) == OUT_CONTROL)
+    !is_set(ocw, OUTDONE) & (output_mode(ocw) == OutputMode::Control)
 }
 
-// What an output turn that sent nothing did.
-fn say_unsent(ocw: u16) {
-    if is_control(ocw) {
-        write_all(1, b"port control, control bits octal ");
-        say_octal(get(ocw, CHARACTER) as u8);
-        return;
-    }
-    write_all(1, b"nothing to send");
+// An inspection that a running unit made: its answer, the setting, interrupt side and memory that it left, and what its port's block held before it.
+#[derive(Clone, Copy)]
+pub struct Inspected<'a> {
+    pub answer: Answer,
+    pub setting: Setting,
+    pub irq: Irq,
+    pub mem: &'a Memory,
+    pub before: Before,
 }
 
-// What an output turn did.
-fn say_output(a: Answer, ocw: u16) {
-    if a.sent {
-        write_all(1, b"output ");
-        say_character(a.byte);
-        write_all(1, b" sent");
-        return;
-    }
-    say_unsent(ocw);
-}
-
-// What a service did.
-fn say_service(service: Service, a: Answer, s: Setting, mem: &[u16], before: Before)
-    requires { length mem.now ≡ 32768 }
-{
-    match service {
-        Service::Input => {
-            say_input(s, mem, a.port, before, a.sent);
+impl Inspected<'_> {
+    // An input turn that stored nothing: the character was dropped where none was asked for, otherwise it is in ICW.
+    fn write_unstored<W: fmt::Write>(&self, f: &mut fmt::Formatter<W>) -> fmt::Result {
+        if is_unasked(self.before.icw) {
+            return write!(f, "dropped, none is asked for");
         }
-        Service::Output => {
-            say_output(a, before.ocw);
+        let mem = self.mem;
+        let icw = word_of(self.setting, mem, self.answer.port, ICW);
+        let codes = self.setting.special;
+        write!(f, "{}", InIcw { icw, codes })
+    }
+
+    // What an input turn did: the pointer stepped where a byte was stored.
+    fn write_input<W: fmt::Write>(&self, f: &mut fmt::Formatter<W>) -> fmt::Result {
+        let mem = self.mem;
+        let ibp = word_of(self.setting, mem, self.answer.port, IBP);
+        write!(f, "input ")?;
+        if ibp == self.before.ibp {
+            return self.write_unstored(f);
+        }
+        let stored = Character(fetch(self.mem, ibp));
+        write!(f, "'{stored}' stored at byte {ibp}")?;
+        if self.answer.sent.is_some() {
+            write!(f, ", echoed")?;
+        }
+        Ok(())
+    }
+
+    // What an output turn that sent nothing did.
+    fn write_unsent<W: fmt::Write>(&self, f: &mut fmt::Formatter<W>) -> fmt::Result {
+        let ocw = self.before.ocw;
+        if is_control(ocw) {
+            let bits = get(ocw, CHARACTER);
+            return write!(f, "port control, control bits octal {bits:03o}");
+        }
+        write!(f, "nothing to send")
+    }
+
+    // What an output turn did.
+    fn write_output<W: fmt::Write>(&self, f: &mut fmt::Formatter<W>) -> fmt::Result {
+        match self.answer.sent {
+            Some(b) => write!(f, "output '{}' sent", Character(b)),
+            None => self.write_unsent(f),
+        }
+    }
+
+    // What the turn served.
+    fn write_turn<W: fmt::Write>(&self, f: &mut fmt::Formatter<W>) -> fmt::Result {
+        match self.answer.turn {
+            Turn::Nothing => write!(f, "nothing"),
+            Turn::Idle => write!(f, "still sending"),
+            Turn::Served {
+                service: Service::Input,
+            } => self.write_input(f),
+            Turn::Served {
+                service: Service::Output,
+            } => self.write_output(f),
         }
     }
 }
 
-// What a turn served.
-fn say_turn(a: Answer, s: Setting, mem: &[u16], before: Before)
-    requires { length mem.now ≡ 32768 }
-{
-    let t = a.turn;
-    match t {
-        Turn::Nothing => {
-            write_all(1, b"nothing");
+// The port, what was served there, and the interrupt, if any was raised.
+impl fmt::Display for Inspected<'_> {
+    fn fmt<W: fmt::Write>(&self, f: &mut fmt::Formatter<W>) -> fmt::Result {
+        write!(f, "  port {}: ", self.answer.port)?;
+        self.write_turn(f)?;
+        if self.answer.raised {
+            let word = dia(self.setting.kind, self.irq);
+            write!(f, ", interrupt, status word {word}")?;
         }
-        Turn::Idle => {
-            write_all(1, b"still sending");
-        }
-        Turn::Served { service } => {
-            say_service(service, a, s, mem, before);
-        }
+        Ok(())
     }
-}
-
-// The interrupt, if any was raised.
-fn say_interrupt(raised: bool, k: Kind, i: Irq) {
-    if raised {
-        write_all(1, b", interrupt, status word ");
-        say_number(dia(k, i) as u64);
-    }
-}
-
-// An inspection that a running unit made, with the setting and the interrupt side that it left.
-pub fn say_inspected(a: Answer, s: Setting, i: Irq, mem: &[u16], before: Before)
-    requires { length mem.now ≡ 32768 }
-{
-    let k = s.kind;
-    write_all(1, b"  port ");
-    say_number(a.port as u64);
-    write_all(1, b": ");
-    say_turn(a, s, mem, before);
-    say_interrupt(a.raised, k, i);
 }

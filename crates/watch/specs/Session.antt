@@ -1,8 +1,8 @@
 -- The session to watch: its unit, what its host writes, and the record and the memory after each part of it.
 --   three, place_of            its unit, of a kind and with a set of special codes; where a word of a port's control block lies
---   seen                      what is seen of a block before an inspection
 --   with_word, control_word     a word of a port's control block written; OCW for port control
 --   control_put .. output_put   what the host writes, in the session's order
+--   looking                   what one thing asked of the unit answers and leaves
 --   after, wrote              the world after one thing asked of the unit, and after the host's writes
 --   turned .. keyed_three      the world after what the session does again and again
 --   set_up .. session          the world after each part, in the session's order
@@ -11,7 +11,7 @@
 -- Not here: what one call does, in Calls of the crate calls; what is printed, which the stored output holds;
 -- what follows, in laws/.
 -- Assumes nothing.
-use Rattle.std.specs.Prelude.{Bool, false, List, ℕ, ◌+◌, ◌%◌, get_or, set, replicate}
+use Rattle.std.specs.Prelude.{Bool, false, List, ℕ, ◌+◌, ◌%◌, set, replicate}
 use Rattle.words.specs.Field.{put}
 use Rattle.words.specs.Codes.{at_icw, at_ocw, at_ibp, at_obp, at_lib, at_lob, INMO, in_echo, ASCII, OUTMO, out_auto, out_control, DEVICE-CONTROL, CHARACTER}
 use Rattle.words.specs.Byte.{store_byte}
@@ -21,7 +21,7 @@ use Rattle.interrupt.specs.declared.Kind.TheVariants.{Eds8, MightyMux}
 use Rattle.unit.specs.declared.mux.Setting.{Setting}
 use Rattle.unit.specs.declared.mux.Mux.{Mux}
 use Rattle.unit.specs.Record.{no_mux, block_at}
-use Rattle.unit.specs.Reply.{World, world, Outcome}
+use Rattle.unit.specs.Reply.{Reply, World, world, Looked, Outcome}
 use Rattle.unit.specs.Refusals.{MOST-INSPECTIONS}
 use Rattle.unit.specs.Setup.{setup}
 use Rattle.lines.specs.declared.signal.Signal.TheVariants.{Arrival, TransmitterEmpty}
@@ -31,7 +31,6 @@ use Rattle.calls.specs.declared.call.Act.{Act}
 use Rattle.calls.specs.declared.call.Act.TheVariants.{Line, Processor, Inspect}
 use Rattle.calls.specs.Calls as Calls
 use Rattle.calls.specs.Calls.{performed}
-use Rattle.watch.specs.declared.say.Before.{Before}
 
 -- ---- the unit
 
@@ -42,10 +41,6 @@ three kind codes = record { kind = kind; block = 8; ports = 3; base = 256; speci
 -- where word k of port p's control block lies, whatever the kind and the set
 unfoldable pub place_of : ℕ → ℕ → ℕ
 place_of p k = block_at (three Eds8 (replicate 128 false)) (p % 3) + k
-
--- what is seen of port p's block before an inspection
-abbrev pub seen : List ℕ → ℕ → Before
-seen m p = record { ocw = get_or m (place_of p at_ocw) 0; ibp = get_or m (place_of p at_ibp) 0 }
 
 -- ---- what the host writes into its memory
 
@@ -78,6 +73,10 @@ unfoldable pub output_put : List ℕ → List ℕ
 output_put m = with_word 2 at_ocw (put OUTMO out_auto 0) (with_word 2 at_lob 3004 (with_word 2 at_obp 2999 (greeting_put m)))
 
 -- ---- the session
+
+-- what one thing asked of the unit answers, and the world after it
+abbrev pub looking : Reply → World → Looked
+looking r w = record { reply = r; world = w }
 
 -- the world after one thing asked of the unit
 abbrev pub after : Act → World → World

@@ -1,114 +1,307 @@
-// What the host of the session writes into its control blocks, and reads there.
-ghost use Rattle.std.specs.Prelude.{◌≡◌, ◌<◌, length, get_or};
-ghost use Rattle.ground.specs.Choose.{Below};
-ghost use Rattle.watch.specs.Session.{three, place_of, with_word, control_word, control_put, input_asked, input_put, greeting_put, output_put};
+// The session, part by part: a unit on its host's memory, what is asked of it and what its host writes, told in plain words on the way.
+ghost use Rattle.std.specs.Prelude.{◌≡◌};
+ghost use Rattle.processor.specs.declared.orders.Order.TheVariants.{Dias};
+ghost use Rattle.calls.specs.declared.call.Act.TheVariants.{Line, Processor, Inspect};
+ghost use Rattle.unit.specs.Reply.{reply_of};
+ghost use Rattle.calls.specs.Calls.{performed};
+ghost use Rattle.words.specs.Codes.{at_ibp};
+ghost use Rattle.telling.specs.Look.{word_of};
+ghost use Rattle.watch.specs.Session.{looking, wrote, after, input_asked, turned, rotated, typed, keyed, keyed_three, set_up, began, prepared, opened, first_half, session, piled, ticked, read_twice, waiting, mighty};
 
+use crate::blocks::{ask_input, put_control, put_input, put_output, three};
+use calls::call::{Act, What, asking, setting_up};
 use interrupt::Kind;
-use unit::mux::{Setting, block_at};
-use words::byte::store;
-use words::codes::{
-    ASCII, CHARACTER, DEVICE_CONTROL, IBP, ICW, IN_ECHO, INMO, LIB, LOB, OBP, OCW, OUT_AUTO,
-    OUT_CONTROL, OUTMO,
-};
-use words::field::put;
+use lines::signal::Signal;
+use processor::orders::Order;
+use std::marker::Model;
+use telling::asked::Doing;
+use telling::look::{seen, word_of};
+use telling::say::Bytes;
+use telling::told::Read;
+use telling::turn::Inspected;
+use unit::mux::Mux;
+use unit::refusal::Refusal;
+use unit::reply::Reply;
+use unit::setup::no_mux;
+use words::byte::Memory;
+use words::codes::{IBP, ICW, INDONE};
+use words::field::is_set;
+use words::special::set_1974;
 
-// A unit of that kind: three ports with blocks of 8 words from word 256 on, where either kind may have them, and that set of special codes.
-pub fn three(kind: Kind, codes: [bool; 128]) -> Setting
-    ensures { result ≡ three kind codes }
-{
-    Setting {
-        kind,
-        block: 8,
-        ports: 3,
-        base: 256,
-        special: codes,
+// A unit on its host's memory: clauses see the world of both.
+#[derive(Drop)]
+pub struct Host {
+    pub unit: Mux,
+    pub memory: Memory,
+}
+
+impl Model for Host {
+    ghost use Rattle.unit.specs.Reply.{World, world};
+
+    ghost Value = { World };
+
+    ghost view = { λ h. world h.unit h.memory };
+}
+
+impl Host {
+    // One thing asked of the unit. Only a sweep has a list, so it is given none.
+    #[tactic(auto, unfolding(calls::specs::Calls::step_of))]
+    fn asked(&mut self, act: Act) -> Result<Reply, Refusal>
+        ensures { looking (reply_of result) self.new ≡ performed self.old act }
+    {
+        let mut none = [0u16; 1];
+        door::call(
+            &mut self.unit,
+            &mut self.memory,
+            &mut none,
+            asking(What::Do { act }),
+        )
     }
-}
 
-// Where word k of port p's control block lies, whatever the kind and the set. Nothing says here that p is below 3, so its remainder is taken.
-fn place_of(p: u32, k: usize) -> usize
-    requires { k < 8 }
-    ensures { Below 32768 (place_of p k) result }
-{
-    block_at(three(Kind::Eds8, [false; 128]), p % 3) + k
-}
+    // An order of the processor's.
+    fn ordered(&mut self, order: Order)
+        ensures { self.new ≡ after (Processor order) self.old }
+    {
+        let _ = self.asked(Act::Processor { order });
+    }
 
-// A word of port p's control block.
-pub fn word_of(mem: &[u16], p: u32, k: usize) -> u16
-    requires mem_len { length mem.now ≡ 32768 }
-    requires k_bound { k < 8 }
-    ensures { result ≡ get_or mem.now (place_of p k) 0 }
-{
-    let at = place_of(p, k);
-    mem[at]
-}
+    // A signal of port p's line.
+    fn signalled(&mut self, p: u32, signal: Signal)
+        ensures { self.new ≡ after (Line p signal) self.old }
+    {
+        let _ = self.asked(Act::Line { port: p, signal });
+    }
 
-// A word of port p's control block written.
-fn put_word(mem: &mut [u16], p: u32, k: usize, word: u16)
-    requires mem_len { length mem.old ≡ 32768 }
-    requires k_bound { k < 8 }
-    ensures { mem.new ≡ with_word p k word mem.old }
-{
-    let at = place_of(p, k);
-    mem[at] = word;
-}
+    // One inspection, in plain words.
+    fn watched(&mut self, rt: &impl Print)
+        ensures { self.new ≡ after Inspect self.old }
+    {
+        let before = seen(self.unit.setting, &self.memory, self.unit.pos);
+        if let Ok(reply) = self.asked(Act::Inspect) {
+            let told = Inspected {
+                answer: reply.answer,
+                setting: self.unit.setting,
+                irq: self.unit.irq,
+                mem: &self.memory,
+                before,
+            };
+            let _ = println!(rt; "{told}");
+        }
+    }
 
-// OCW for port control: Device Control 1, control bits octal 67 (8 bits, 9600 baud).
-fn control_word() -> u16
-    ensures { result ≡ control_word }
-{
-    let mode = put(0, OUTMO, OUT_CONTROL);
-    put(put(mode, DEVICE_CONTROL, 1), CHARACTER, 0o67)
-}
+    // One inspection; the processor takes the status by DIAS, and the port's transmitter runs empty.
+    #[tactic(auto, unfolding(crate::specs::Session::turned))]
+    fn turned(&mut self, rt: &impl Print)
+        ensures { self.new ≡ turned self.old }
+    {
+        let p = self.unit.pos;
+        self.watched(rt);
+        self.ordered(Order::Dias);
+        self.signalled(p, Signal::TransmitterEmpty);
+    }
 
-// Each port's length and speed, by port control.
-pub fn put_control(mem: &mut [u16])
-    requires { length mem.old ≡ 32768 }
-    ensures { mem.new ≡ control_put mem.old }
-{
-    put_word(mem, 0, OCW, control_word());
-    put_word(mem, 1, OCW, control_word());
-    put_word(mem, 2, OCW, control_word());
-}
+    // A rotation: an inspection of each of the three ports.
+    #[tactic(auto, unfolding(crate::specs::Session::rotated))]
+    fn rotated(&mut self, rt: &impl Print)
+        ensures { self.new ≡ rotated self.old }
+    {
+        self.turned(rt);
+        self.turned(rt);
+        self.turned(rt);
+    }
 
-// Port 0 is asked for automatic input with echo, in 7-bit ASCII mode.
-pub fn ask_input(mem: &mut [u16])
-    requires { length mem.old ≡ 32768 }
-    ensures { mem.new ≡ input_asked mem.old }
-{
-    put_word(mem, 0, ICW, put(put(0, INMO, IN_ECHO), ASCII, 1));
-}
+    // A character typed at port p.
+    #[tactic(auto, unfolding(crate::specs::Session::typed))]
+    fn typed(&mut self, rt: &impl Print, p: u32, c: u8)
+        ensures { self.new ≡ typed p c self.old }
+    {
+        let signal = Signal::Arrival {
+            c,
+            parity: false,
+            brk: false,
+        };
+        let _ = println!(rt; "{}", Doing(Act::Line { port: p, signal }));
+        self.signalled(p, signal);
+    }
 
-// Port 0: input from byte 2001 to byte 2006, as long as the name with its glottal stop. Port 1: single mode, which is 0.
-pub fn put_input(mem: &mut [u16])
-    requires { length mem.old ≡ 32768 }
-    ensures { mem.new ≡ input_put mem.old }
-{
-    ask_input(mem);
-    put_word(mem, 0, IBP, 2000);
-    put_word(mem, 0, LIB, 2006);
-    put_word(mem, 1, ICW, 0);
-}
+    // A character typed at port 0, and a rotation.
+    #[tactic(auto, unfolding(crate::specs::Session::keyed))]
+    fn keyed(&mut self, rt: &impl Print, c: u8)
+        ensures { self.new ≡ keyed c self.old }
+    {
+        self.typed(rt, 0, c);
+        self.rotated(rt);
+    }
 
-// Bytes 3000 to 3004: a word of greeting.
-fn put_greeting(mem: &mut [u16])
-    requires { length mem.old ≡ 32768 }
-    ensures { mem.new ≡ greeting_put mem.old }
-{
-    store(mem, 3000, b'a');
-    store(mem, 3001, b'l');
-    store(mem, 3002, b'o');
-    store(mem, 3003, b'h');
-    store(mem, 3004, b'a');
-}
+    // Three characters typed at port 0, a rotation after each.
+    #[tactic(auto, unfolding(crate::specs::Session::keyed_three))]
+    fn keyed_three(&mut self, rt: &impl Print, a: u8, b: u8, c: u8)
+        ensures { self.new ≡ keyed_three a b c self.old }
+    {
+        self.keyed(rt, a);
+        self.keyed(rt, b);
+        self.keyed(rt, c);
+    }
 
-// Port 2: automatic output of bytes 3000 to 3004.
-pub fn put_output(mem: &mut [u16])
-    requires { length mem.old ≡ 32768 }
-    ensures { mem.new ≡ output_put mem.old }
-{
-    put_greeting(mem);
-    put_word(mem, 2, OBP, 2999);
-    put_word(mem, 2, LOB, 3004);
-    put_word(mem, 2, OCW, put(0, OUTMO, OUT_AUTO));
+    // A new unit of three ports, of that kind and with that set; a setup has no list either.
+    #[tactic(auto, unfolding(crate::specs::Session::set_up, calls::specs::Calls::step_of))]
+    fn set_up(memory: Memory, kind: Kind, codes: [bool; 128]) -> Host
+        ensures { result ≡ set_up kind codes memory }
+    {
+        let mut none = [0u16; 1];
+        let mut unit = no_mux();
+        let mut memory = memory;
+        let _ = door::call(
+            &mut unit,
+            &mut memory,
+            &mut none,
+            setting_up(three(kind, codes)),
+        );
+        Host { unit, memory }
+    }
+
+    // The unit at the start of a session: it runs.
+    #[tactic(auto, unfolding(crate::specs::Session::began))]
+    fn began(memory: Memory, kind: Kind, codes: [bool; 128]) -> Host
+        ensures { result ≡ began kind codes memory }
+    {
+        let mut host = Host::set_up(memory, kind, codes);
+        host.ordered(Order::Doc);
+        host
+    }
+
+    // Port control at each port, and then the control blocks of the session.
+    #[tactic(auto, unfolding(crate::specs::Session::prepared))]
+    fn prepared(&mut self, rt: &impl Print)
+        ensures { self.new ≡ prepared self.old }
+    {
+        put_control(&mut self.memory);
+        let _ = println!(rt; "a unit of 3 ports runs; the host asks for port control at each");
+        self.rotated(rt);
+        put_input(&mut self.memory);
+        put_output(&mut self.memory);
+    }
+
+    // Both, at an EDS-8 with that set.
+    #[tactic(auto, unfolding(crate::specs::Session::opened))]
+    fn opened(rt: &impl Print, memory: Memory, codes: [bool; 128]) -> Host
+        ensures { result ≡ opened codes memory }
+    {
+        let mut host = Host::began(memory, Kind::Eds8, codes);
+        host.prepared(rt);
+        host
+    }
+
+    // The first half of the name pu'uku, its glottal stop keyed as octal 174, and x at port 1.
+    #[tactic(auto, unfolding(crate::specs::Session::first_half))]
+    fn first_half(&mut self, rt: &impl Print)
+        ensures { self.new ≡ first_half self.old }
+    {
+        self.typed(rt, 1, b'x');
+        self.keyed_three(rt, b'p', b'u', 0o174);
+    }
+
+    // The host asks for input again, whatever it finds in ICW in the middle of the name: a character that is done, or its own word.
+    fn asked_again(&mut self, rt: &impl Print)
+        ensures { self.new ≡ wrote input_asked self.old }
+    {
+        let icw = word_of(self.unit.setting, &self.memory, 0, ICW);
+        let found = if is_set(icw, INDONE) {
+            "takes the special from ICW, and asks for input again"
+        } else {
+            "finds ICW as it wrote it, and asks for the same again"
+        };
+        let _ = println!(rt; "the host {found}");
+        ask_input(&mut self.memory);
+    }
+
+    // The whole session, at a unit with that set.
+    #[tactic(auto, unfolding(crate::specs::Session::session))]
+    pub fn session(rt: &impl Print, memory: Memory, codes: [bool; 128]) -> Host
+        ensures { result ≡ session codes memory }
+    {
+        let mut host = Host::opened(rt, memory, codes);
+        host.first_half(rt);
+        host.asked_again(rt);
+        host.keyed_three(rt, b'u', b'k', b'u');
+        host
+    }
+
+    // The buffer of port 0, from byte 2001 up to where IBP points.
+    pub fn buffer(&self) -> Bytes<'_>
+        ensures memory { result.mem.now ≡ self.now.memory }
+        ensures before { result.before ≡ 2000 }
+        ensures last { result.last ≡ word_of self.now.mux.setting self.now.memory 0 at_ibp }
+    {
+        Bytes {
+            mem: &self.memory,
+            before: 2000,
+            last: word_of(self.unit.setting, &self.memory, 0, IBP),
+        }
+    }
+
+    // Port control at each port, and an inspection of each, with nobody to read the status.
+    #[tactic(auto, unfolding(crate::specs::Session::piled))]
+    fn piled(&mut self, rt: &impl Print)
+        ensures { self.new ≡ piled self.old }
+    {
+        put_control(&mut self.memory);
+        self.watched(rt);
+        self.watched(rt);
+        self.watched(rt);
+    }
+
+    // A tick of the clock.
+    #[tactic(auto, unfolding(crate::specs::Session::ticked))]
+    fn ticked(&mut self, rt: &impl Print)
+        ensures { self.new ≡ ticked self.old }
+    {
+        let order = Order::Tick;
+        let _ = println!(rt; "{}", Doing(Act::Processor { order }));
+        self.ordered(Order::Iopls);
+        self.ordered(order);
+    }
+
+    // The processor reads by DIAS.
+    fn read(&mut self, rt: &impl Print)
+        ensures { self.new ≡ after (Processor Dias) self.old }
+    {
+        let order = Order::Dias;
+        if let Ok(reply) = self.asked(Act::Processor { order }) {
+            let value = reply.value;
+            let flag = self.unit.irq.flag;
+            let _ = println!(rt; "DIAS {}", Read { value, flag });
+        }
+    }
+
+    // Twice.
+    #[tactic(auto, unfolding(crate::specs::Session::read_twice))]
+    fn read_twice(&mut self, rt: &impl Print)
+        ensures { self.new ≡ read_twice self.old }
+    {
+        self.read(rt);
+        self.read(rt);
+    }
+
+    // A Mighty Mux in which three interrupts and a tick wait to be read.
+    #[tactic(auto, unfolding(crate::specs::Session::waiting))]
+    fn waiting(rt: &impl Print, memory: Memory) -> Host
+        ensures { result ≡ waiting memory }
+    {
+        let mut host = Host::began(memory, Kind::MightyMux, set_1974());
+        host.piled(rt);
+        host.ticked(rt);
+        host
+    }
+
+    // They are read, with one DIAS more than there are entries.
+    #[tactic(auto, unfolding(crate::specs::Session::mighty))]
+    pub fn mighty(rt: &impl Print, memory: Memory) -> Host
+        ensures { result ≡ mighty memory }
+    {
+        let mut host = Host::waiting(rt, memory);
+        host.read_twice(rt);
+        host.read_twice(rt);
+        host
+    }
 }

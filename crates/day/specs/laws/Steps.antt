@@ -8,18 +8,15 @@ use Rattle.std.specs.Prelude.{◌≡◌, refl, Bool, true, false, List, [], ℕ}
 use Rattle.std.proofs.Common.{sym, ◌∙◌, ap}
 use Rattle.ground.specs.Choose.{pick}
 use Rattle.ground.specs.laws.Rows.{pick_true, pick-false}
-use Rattle.unit.specs.declared.reply.Replied.{Replied}
-use Rattle.unit.specs.Reply.{world, looked}
+use Rattle.unit.specs.Reply.{Replied}
+use Rattle.unit.specs.Reply.{Replied, world, looked}
 use Rattle.driver.specs.Text.{Turned, Heard}
 use Rattle.driver.specs.laws.Heard.{heard_on}
 use Rattle.recording.specs.declared.event.Event.{Event}
 use Rattle.recording.specs.Pass.{Kept, kept}
-use Rattle.stream.specs.declared.Stream.{Stream}
-use Rattle.stream.specs.Stream.{took, ready, event}
-use Rattle.day.specs.declared.Day.{Day}
-use Rattle.day.specs.declared.names.View.{View}
-use Rattle.day.specs.Names.{viewed}
-use Rattle.day.specs.Day.{dawn, with_stream, told, after, left, happened, read, taken, on, same}
+use Rattle.stream.specs.Stream.{Stream, took, ready, event}
+use Rattle.day.specs.Names.{View, viewed}
+use Rattle.day.specs.Day.{Day, dawn, with_stream, told, after, left, happened, read, taken, on, same}
 
 -- an event, by its answer and the two looks
 pub happened_is : (d q : Day) (m n : List ℕ) (e : Event) (r : Replied) (was is : View)

@@ -1,9 +1,0 @@
--- `telling::told::say_list` is safe and ends. The measure is how many places are left.
-use Rattle.std.proofs.Common.{◌≤◌, ◌-◌, length}
-use Rattle.telling.proofs.told.say_list.Given as goal
-
-abbrev pub invariant-loop-i : goal.invariant-loop-i
-invariant-loop-i l = l.i ≤ length l.list
-
-abbrev pub decreases-loop-i : goal.decreases-loop-i
-decreases-loop-i l = length l.list - l.i
