@@ -74,9 +74,10 @@ def entries():
 
 
 def sentences():
-    """The sentence of each number, as the caretakers' program says it."""
-    arms = re.findall(r'^ {8}(\d+) => \{(.*?)^ {8}\}', read(ROOT / 'crates/settings/src/say.rt'), re.M | re.S)
-    return {int(number): ''.join(re.findall(r'write_all\(\s*1,\s*b"([^"]*)\\n"', arm)) for number, arm in arms}
+    """The sentence of each number, as the caretakers' program says it; the numbers are those of the refusals of unit."""
+    numbers = dict(re.findall(r'^ {4}(\w+) = (\d+),$', read(ROOT / 'crates/unit/src/refusal.rt'), re.M))
+    arms = re.findall(r'^ {8}Refusal::(\w+) => (?:\{\s*)?"([^"]*)"', read(ROOT / 'crates/settings/src/say.rt'), re.M)
+    return {int(numbers[name]): sentence for name, sentence in arms}
 
 
 def sentences_told():
