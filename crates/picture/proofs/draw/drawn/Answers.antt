@@ -1,7 +1,7 @@
 -- `picture::draw::drawn` meets its contract: each cell is what the row has for it.
 use Rattle.std.proofs.Common.{rules}
 use Rattle.picture.specs.Draw.{drawn_at, drawn}
-use Rattle.picture.proofs.Filled.{from_rule}
+use Rattle.ground.specs.laws.Filled.{from_rule}
 use Rattle.picture.proofs.draw.drawn.Goals as goal
 
 pub returns : goal.returns

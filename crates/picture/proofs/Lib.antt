@@ -1,2 +1,0 @@
--- Arrays that the library fills (Filled).
-mod Filled
