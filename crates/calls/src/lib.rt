@@ -1,5 +1,5 @@
 // Everything that document 01 lets an emulator ask of the unit: one type of calls, one step. By value; the door above lends the record.
-#![tactic(auto, using(crate::proofs::SetUp::set_up_answers), unfolding(crate::specs::Calls::performed, crate::specs::Calls::step_of))]
+#![tactic(auto, using(crate::proofs::SetUp::set_up_answers, crate::proofs::SetUp::set_up_stays), unfolding(crate::specs::Calls::performed, crate::specs::Calls::step_of))]
 
 pub mod call;
 
@@ -34,7 +34,7 @@ pub fn step(u: Mux, mem: &mut [u16], list: &mut [u16], c: Call) -> Result<Replie
     let w = c.what;
     let s = c.setting;
     match w {
-        What::Setup => setup(s),
+        What::Setup => setup(s).map_err(|e| e.refusal),
         What::Do { act } => apply(u, mem, act),
         What::Sweep { n } => sweep(u, mem, n, list),
     }

@@ -146,7 +146,7 @@ fn made(s: Setting) -> Mux
 {
     match setup(s) {
         Ok(r) => r.mux,
-        Err(_) => no_mux(),
+        Err(e) => e.mux,
     }
 }
 

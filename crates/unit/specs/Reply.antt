@@ -6,7 +6,7 @@
 --   refused, accepted, answered    a refusal, a call on the record, an inspection
 --   guarded                        refused by its number, or what the call does
 --   Serviced, World, Looked, Outcome   what a service, a call with memory and a call with memory and list leave
---   answer_of .. replied_of         the same of what the code answers: there a byte may be absent, and a refusal is an error
+--   answer_of .. setup_of           the same of what the code answers: there a byte may be absent, and a refusal is an error
 -- Not here: which call is refused with which number, in Refusals.
 -- Assumes nothing.
 use Rattle.std.specs.Prelude.{Bool, false, not, List, ℕ, eqb, is_some, unwrap_or, Result, Ok, Err}
@@ -20,6 +20,7 @@ use Rattle.unit.specs.declared.reply.Turn.TheVariants.{Nothing, Idle, Served}
 use Rattle.unit.specs.declared.reply.Answer.{Answer as AnswerMade}
 use Rattle.unit.specs.declared.reply.Reply.{Reply as ReplyMade}
 use Rattle.unit.specs.declared.reply.Replied.{Replied as RepliedMade}
+use Rattle.unit.specs.declared.setup.NoUnit.{NoUnit}
 use Rattle.unit.specs.Refusals.{number_of}
 
 -- what an inspection answers: what was served, the port, whether a byte was handed to the transmitter and which, and whether an interrupt was raised
@@ -151,3 +152,8 @@ reply_of (Err e) = failed e
 abbrev pub replied_of : Mux → Result RepliedMade Refusal → Replied
 replied_of u (Ok r) = record { reply = taken r.reply; mux = r.mux }
 replied_of u (Err e) = record { reply = failed e; mux = u }
+
+-- the reply and the record, or a refused setup's number and record
+abbrev pub setup_of : Result RepliedMade NoUnit → Replied
+setup_of (Ok r) = record { reply = taken r.reply; mux = r.mux }
+setup_of (Err e) = record { reply = failed e.refusal; mux = e.mux }

@@ -1,7 +1,7 @@
-// Setup: a new unit, or its refusal. The record of zeros stands where there is no unit.
+// Setup: a new unit, or the number and the record of zeros.
 ghost use Rattle.std.specs.Prelude.{◌≡◌};
 ghost use Rattle.unit.specs.Record.{no_character, no_port, fresh_port, no_setting, fresh, no_mux};
-ghost use Rattle.unit.specs.Reply.{replied_of};
+ghost use Rattle.unit.specs.Reply.{setup_of};
 ghost use Rattle.unit.specs.Setup.{setup};
 
 use crate::mux::{Character, Mux, Port, Setting};
@@ -87,11 +87,21 @@ fn fresh(s: Setting) -> Mux
     }
 }
 
+// What a refused setup gives: why, and the record of zeros.
+#[derive(Clone, Copy)]
+pub struct NoUnit {
+    pub refusal: Refusal,
+    pub mux: Mux,
+}
+
 // Setup.
 #[tactic(auto, using(crate::proofs::Found::refuses, crate::proofs::Found::takes), unfolding(crate::specs::Setup::setup))]
-pub fn setup(s: Setting) -> Result<Replied, Refusal>
-    ensures { replied_of no_mux result ≡ setup s }
+pub fn setup(s: Setting) -> Result<Replied, NoUnit>
+    ensures { setup_of result ≡ setup s }
 {
-    setup_refusal(s)?;
+    setup_refusal(s).map_err(|refusal| NoUnit {
+        refusal,
+        mux: no_mux(),
+    })?;
     Ok(accepted(0, fresh(s)))
 }

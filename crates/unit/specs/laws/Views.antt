@@ -2,6 +2,7 @@
 --   number_one, code_one           of refusals, and of a call's refusal or none
 --   effect_one, answer_one         of what a service may change, and of an inspection's answer
 --   reply_one, replied_one         of what a call answers, and of the answer with the record
+--   setup_one                      of what setup answers
 -- Not here: the views themselves, in specs/Refusals and specs/Reply.
 -- Assumes nothing.
 use Rattle.std.specs.Prelude.{◌≡◌, refl, Bool, ℕ, eqb, Option, Some, None, is_some, unwrap_or, Result, Ok, Err}
@@ -14,8 +15,9 @@ use Rattle.unit.specs.declared.refusal.Refusal.TheVariants.{BadBlock, BadPorts, 
 use Rattle.unit.specs.declared.reply.Answer.{Answer as AnswerMade}
 use Rattle.unit.specs.declared.reply.Reply.{Reply as ReplyMade}
 use Rattle.unit.specs.declared.reply.Replied.{Replied as RepliedMade}
+use Rattle.unit.specs.declared.setup.NoUnit.{NoUnit}
 use Rattle.unit.specs.Refusals.{number_of, code_of}
-use Rattle.unit.specs.Reply.{Effect, Answer, Reply, Replied, effect_of, answer_of, reply_of, replied_of}
+use Rattle.unit.specs.Reply.{Effect, Answer, Reply, Replied, effect_of, answer_of, failed, reply_of, replied_of, setup_of}
 
 -- ---- each view has a way back
 
@@ -145,3 +147,33 @@ replied_back u (Err BadLocation) = refl
 -- two answers to a call on one record that look the same are one
 pub replied_one : (u : Mux) (r s : Result RepliedMade Refusal) → replied_of u r ≡ replied_of u s → r ≡ s
 replied_one u r s h = sym (replied_back u r) ∙ ap replied_made h ∙ replied_back u s
+
+-- what setup answers, of a record of the definitions
+unfoldable pub setup_made : Replied → Result RepliedMade NoUnit
+setup_made r =
+    pick (eqb r.reply.code 0)
+    (Ok (record { reply = record { value = r.reply.value; answer = answer_made r.reply.answer; made = r.reply.made; used = r.reply.used }; mux = r.mux }))
+    (Err (record { refusal = refusal_of r.reply.code; mux = r.mux }))
+
+setup_failed : (u : Mux) (k : Refusal) → setup_made (record { reply = failed k; mux = u }) ≡ Err (record { refusal = k; mux = u })
+unfolding setup_made refusal_of pick
+setup_failed u BadBlock = refl
+setup_failed u BadPorts = refl
+setup_failed u Misaligned = refl
+setup_failed u Crosses = refl
+setup_failed u Unsound = refl
+setup_failed u BadMemory = refl
+setup_failed u NoPort = refl
+setup_failed u TooMany = refl
+setup_failed u ShortList = refl
+setup_failed u TooHigh = refl
+setup_failed u BadLocation = refl
+
+pub setup_back : (r : Result RepliedMade NoUnit) → setup_made (setup_of r) ≡ r
+unfolding setup_made pick
+setup_back (Ok r) = ap (λ a. Ok (record { reply = record { value = r.reply.value; answer = a; made = r.reply.made; used = r.reply.used }; mux = r.mux })) (answer_back r.reply.answer)
+setup_back (Err e) = setup_failed e.mux e.refusal
+
+-- two answers of setup that look the same are one: a refusal and its record too
+pub setup_one : (r s : Result RepliedMade NoUnit) → setup_of r ≡ setup_of s → r ≡ s
+setup_one r s h = sym (setup_back r) ∙ ap setup_made h ∙ setup_back s
