@@ -8,7 +8,9 @@ ghost use Rattle.unit.specs.Sound.{SizeFits, BaseFits};
 
 use crate::mux::{Mux, Setting};
 use interrupt::Kind;
-use words::byte::WORDS;
+
+// How many words the host's memory has.
+pub use words::byte::WORDS;
 
 // How many ports a unit may have, how many inspections a sweep may ask for.
 pub const MOST_PORTS: u32 = 128;
