@@ -8,16 +8,19 @@ ghost use Rattle.input.specs.Plan.{error_number};
 
 use unit::mux::Character;
 use words::ascii::word_byte;
-use words::codes::{ASCII, CHARACTER, FLAGS, INDONE, NOT_ECHOED, PARITY_INHIBIT, SERVICE_OVERLOAD};
+use words::codes::{
+    ASCII, CHARACTER, FLAG_BREAK, FLAG_NONE, FLAG_OVERLOAD, FLAG_PARITY, FLAGS, INDONE, NOT_ECHOED,
+    PARITY_INHIBIT, SERVICE_OVERLOAD,
+};
 use words::field::{bit, get, is_set, put};
 
 // What bits 4 and 5 of ICW say of a character (001, section 4.1).
 #[derive(Clone, Copy, PartialEq, Eq, Debug)]
 pub enum ErrorCode {
-    NoError = 0,
-    Parity = 1,
-    Overload = 2,
-    Break = 3,
+    NoError = FLAG_NONE as isize,
+    Parity = FLAG_PARITY as isize,
+    Overload = FLAG_OVERLOAD as isize,
+    Break = FLAG_BREAK as isize,
 }
 
 // One reading of 7-bit ASCII mode, for the stored byte, the echo and ICW alike.

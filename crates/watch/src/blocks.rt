@@ -8,9 +8,11 @@ ghost use Rattle.watch.specs.Session.{three, place_of, with_word, control_word, 
 use interrupt::Kind;
 use unit::mux::{Setting, block_at};
 use words::byte::{Memory, store};
-use words::codes::{ASCII, CHARACTER, DEVICE_CONTROL, IBP, ICW, INMO, LIB, LOB, OBP, OCW, OUTMO};
+use words::codes::{
+    ASCII, CHARACTER, DEVICE_CONTROL, IBP, ICW, IN_ECHO, INMO, LIB, LOB, OBP, OCW, OUT_AUTO,
+    OUT_CONTROL, OUTMO,
+};
 use words::field::put;
-use words::modes::{InputMode, OutputMode};
 
 // A unit of that kind: three ports with blocks of 8 words from word 256 on, where either kind may have them, and that set of special codes.
 pub fn three(kind: Kind, codes: [bool; 128]) -> Setting
@@ -47,7 +49,7 @@ fn put_word(mem: &mut Memory, p: u32, k: usize, word: u16)
 fn control_word() -> u16
     ensures { result ≡ control_word }
 {
-    let mode = put(0, OUTMO, OutputMode::Control as u16);
+    let mode = put(0, OUTMO, OUT_CONTROL);
     put(put(mode, DEVICE_CONTROL, 1), CHARACTER, 0o67)
 }
 
@@ -64,12 +66,7 @@ pub fn put_control(mem: &mut Memory)
 pub fn ask_input(mem: &mut Memory)
     ensures { mem.new ≡ input_asked mem.old }
 {
-    put_word(
-        mem,
-        0,
-        ICW,
-        put(put(0, INMO, InputMode::Echo as u16), ASCII, 1),
-    );
+    put_word(mem, 0, ICW, put(put(0, INMO, IN_ECHO), ASCII, 1));
 }
 
 // Port 0: input from byte 2001 to byte 2006, as long as the name with its glottal stop. Port 1: single mode, which is 0.
@@ -100,5 +97,5 @@ pub fn put_output(mem: &mut Memory)
     put_greeting(mem);
     put_word(mem, 2, OBP, 2999);
     put_word(mem, 2, LOB, 3004);
-    put_word(mem, 2, OCW, put(0, OUTMO, OutputMode::Auto as u16));
+    put_word(mem, 2, OCW, put(0, OUTMO, OUT_AUTO));
 }

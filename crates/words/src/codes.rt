@@ -25,6 +25,8 @@ pub const INMO: Field = Field {
     span: 4,
 };
 
+pub const IN_SINGLE: u16 = 0;
+
 pub const IN_NONE: u16 = 1;
 
 pub const IN_ECHO: u16 = 3;
@@ -38,6 +40,14 @@ pub const FLAGS: Field = Field {
     unit: 1024,
     span: 4,
 };
+
+pub const FLAG_NONE: u16 = 0;
+
+pub const FLAG_PARITY: u16 = 1;
+
+pub const FLAG_OVERLOAD: u16 = 2;
+
+pub const FLAG_BREAK: u16 = 3;
 
 pub const NOT_ECHOED: Field = Field { unit: 512, span: 2 };
 
@@ -59,6 +69,8 @@ pub const OUTMO: Field = Field {
     unit: 8192,
     span: 4,
 };
+
+pub const OUT_NONE: u16 = 0;
 
 pub const OUT_AUTO: u16 = 1;
 

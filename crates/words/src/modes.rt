@@ -1,4 +1,4 @@
-// The modes of input and output, which stand in fields of two bits (001, sections 4.1 and 4.2), each by its name.
+// The modes of input and output, which stand in fields of two bits (001, sections 4.1 and 4.2), each by its name; the numbers are those of the one table, codes.
 ghost use Rattle.std.specs.Prelude.{◌≡◌};
 ghost use Rattle.words.specs.Field.{get};
 ghost use Rattle.words.specs.Codes.{INMO, OUTMO};
@@ -10,19 +10,19 @@ use crate::field::get;
 // What becomes of a character: bits 1 and 2 of ICW.
 #[derive(Clone, Copy, PartialEq, Eq, Debug)]
 pub enum InputMode {
-    Single = 0,
-    NoInput = 1,
-    Auto = 2,
-    Echo = 3,
+    Single,
+    NoInput,
+    Auto,
+    Echo,
 }
 
 // What an empty transmitter gets: bits 1 and 2 of OCW.
 #[derive(Clone, Copy, PartialEq, Eq, Debug)]
 pub enum OutputMode {
-    NoOutput = 0,
-    Auto = 1,
-    Control = 2,
-    Single = 3,
+    NoOutput,
+    Auto,
+    Control,
+    Single,
 }
 
 // The mode that ICW asks for. It and OCW's are two functions, for the two words have other modes.
@@ -30,10 +30,10 @@ pub fn input_mode(icw: u16) -> InputMode
     ensures { input_number result ≡ get INMO icw }
 {
     match get(icw, codes::INMO) {
-        0 => InputMode::Single,
-        1 => InputMode::NoInput,
-        2 => InputMode::Auto,
-        _ => InputMode::Echo,
+        codes::IN_SINGLE => InputMode::Single,
+        codes::IN_NONE => InputMode::NoInput,
+        codes::IN_ECHO => InputMode::Echo,
+        _ => InputMode::Auto,
     }
 }
 
@@ -42,9 +42,9 @@ pub fn output_mode(ocw: u16) -> OutputMode
     ensures { output_number result ≡ get OUTMO ocw }
 {
     match get(ocw, codes::OUTMO) {
-        0 => OutputMode::NoOutput,
-        1 => OutputMode::Auto,
-        2 => OutputMode::Control,
+        codes::OUT_NONE => OutputMode::NoOutput,
+        codes::OUT_AUTO => OutputMode::Auto,
+        codes::OUT_CONTROL => OutputMode::Control,
         _ => OutputMode::Single,
     }
 }
