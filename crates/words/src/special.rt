@@ -9,7 +9,8 @@ pub fn is_special(c: u8) -> bool
     ensures { result ≡ is_special c }
 {
     // The top bit is no part of a code: 7-bit ASCII mode sets it in what it stores.
-    matches!(c % 128, 0..=31 | 124..=127)
+    let low = c % 128;
+    matches!(low, 0..=31 | 124..=127)
 }
 
 // The set of that rule, which a unit has whose school chose none.
