@@ -8,10 +8,10 @@ ghost use Rattle.framing.specs.Number.{bits_numbered, parity_numbered, stops_num
 // The number of data bits.
 #[derive(Clone, Copy, PartialEq, Eq, Debug)]
 pub enum DataBits {
-    Five = 5,
-    Six = 6,
-    Seven = 7,
-    Eight = 8,
+    Five,
+    Six,
+    Seven,
+    Eight,
 }
 
 // The parity bit: none, or one that makes the ones odd or even.
@@ -44,7 +44,12 @@ impl Form {
     pub fn data_bits(self) -> u32
         ensures { Below 9 (data_bits self) result }
     {
-        self.bits as u32
+        match self.bits {
+            DataBits::Five => 5,
+            DataBits::Six => 6,
+            DataBits::Seven => 7,
+            DataBits::Eight => 8,
+        }
     }
 
     // Whether there is a parity bit.

@@ -1,17 +1,20 @@
 -- What the code answers is settled by what the definitions say of it: two answers that look the same are the same.
 --   number_one                 of refusals
 --   written_one, frame_one     of what writing and reading answer
+--   write_one_made, read_one_made   any two answers of the code to one writing, and to one reading, are equal
 -- Not here: the views themselves, in specs/Refusal, specs/Write and specs/Read.
 -- Assumes nothing.
-use Rattle.std.specs.Prelude.{◌≡◌, refl, ℕ, eqb, Result, Ok, Err}
+use Rattle.std.specs.Prelude.{◌≡◌, refl, List, ℕ, eqb, Result, Ok, Err}
 use Rattle.std.proofs.Common.{ap, sym, ◌∙◌}
 use Rattle.ground.specs.Choose.{pick}
 use Rattle.framing.specs.declared.read.Frame.{Frame as Taken}
 use Rattle.framing.specs.declared.refusal.Refusal.{Refusal}
 use Rattle.framing.specs.declared.refusal.Refusal.TheVariants.{NoRoom, TooShort, NoFrame}
 use Rattle.framing.specs.Refusal.{number_of}
-use Rattle.framing.specs.Read.{Frame, frame_of}
-use Rattle.framing.specs.Write.{Written, written_of}
+use Rattle.framing.specs.declared.form.Form.{Form}
+use Rattle.framing.specs.Read.{Frame, frame_of, looked, read_frame}
+use Rattle.framing.specs.Write.{Written, written_of, wrote, write_frame}
+use Rattle.framing.specs.laws.Outcomes.{write_one, read_one}
 
 -- ---- each view has a way back
 
@@ -58,3 +61,13 @@ frame_back (Err NoFrame) = refl
 -- two answers of reading that look the same are one
 pub frame_one : (r s : Result Taken Refusal) → frame_of r ≡ frame_of s → r ≡ s
 frame_one r s h = sym (frame_back r) ∙ ap frame_made h ∙ frame_back s
+
+-- ---- and what the code answered to one call is one
+
+pub write_one_made : (f : Form) (c : ℕ) (d : List ℕ) (r s : Result ℕ Refusal) (xs ys : List ℕ) → wrote (written_of r) xs ≡ write_frame f c d → wrote (written_of s) ys ≡ write_frame f c d → (r ≡ s) × (xs ≡ ys)
+write_one_made f c d r s xs ys p q =
+    let one = write_one f c d (written_of r) (written_of s) xs ys p q in
+    (written_one r s one.0, one.1)
+
+pub read_one_made : (f : Form) (d : List ℕ) (r s : Result Taken Refusal) (xs ys : List ℕ) → looked (frame_of r) xs ≡ looked (read_frame f d) d → looked (frame_of s) ys ≡ looked (read_frame f d) d → r ≡ s
+read_one_made f d r s xs ys p q = frame_one r s (read_one f d (frame_of r) (frame_of s) xs ys p q).0
