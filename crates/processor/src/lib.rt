@@ -3,7 +3,7 @@
 
 pub mod orders;
 
-ghost use Rattle.std.specs.Prelude.{◌≡◌};
+ghost use Rattle.std.specs.Prelude.{◌≡◌, map};
 ghost use Rattle.ground.specs.Choose.{pick};
 ghost use Rattle.interrupt.specs.Interrupt.{ticked};
 ghost use Rattle.unit.specs.Reply.{replied_of};
@@ -45,17 +45,26 @@ fn switched(u: Mux, runs: bool, clock: bool, irq: Irq) -> Mux
     }
 }
 
-// The record after a reset: every port of the array, those past P as well, for none of them can be seen.
+// Every port of the array after a reset, those past P as well: none of them can be seen.
+// A loop in place, since the array's map takes five times as many instructions.
+fn reset_ports(ports: &mut [Port; 128])
+    ensures { ports.new ≡ map reset_port ports.old }
+{
+    for q in &mut ports[..] {
+        *q = reset_port(*q);
+    }
+}
+
+// The record after a reset.
 fn reset_unit(u: Mux) -> Mux
     ensures { result ≡ reset_unit u }
 {
-    let i = u.irq;
-    let t = u.port;
-    Mux {
+    let mut v = Mux {
         pos: 0,
-        port: t.map(reset_port),
-        ..switched(u, false, false, interrupt::cleared(i))
-    }
+        ..switched(u, false, false, interrupt::cleared(u.irq))
+    };
+    reset_ports(&mut v.port);
+    v
 }
 
 // The interrupt side after a tick, with the clock on or off.
