@@ -6,16 +6,35 @@ pub mod turn;
 ghost use Rattle.std.specs.Prelude.{◌≡◌};
 ghost use Rattle.unit.specs.Reply.{looked, answered, answer_of, replied_of};
 ghost use Rattle.unit.specs.Sound.{Sound};
-ghost use Rattle.scan.specs.Scan.{scanned, inspection};
+ghost use Rattle.scan.specs.Turn.{turned_of};
+ghost use Rattle.scan.specs.Scan.{moved, scanned, inspection};
 
-use crate::turn::turn;
+use crate::turn::{Turned, turn};
 use unit::mux::Mux;
 use unit::refusal::{Refusal, inspect_refusal};
 use unit::reply::{Answer, Replied, answered, nothing};
 use words::byte::{Memory, WORDS};
 
+// The record after a turn, also one that was made of a position from outside: the port in its place, the interrupt side, the position one on.
+#[tactic(auto, unfolding(crate::specs::Scan::moved, crate::specs::Scan::next_pos))]
+pub fn moved(u: Mux, t: Turned) -> Mux
+    requires { Sound u }
+    ensures { result ≡ moved u (turned_of t) }
+{
+    let mut port = u.port;
+    port[u.pos as usize] = t.port;
+    Mux {
+        pos: (u.pos + 1) % u.setting.ports,
+        irq: t.irq,
+        port,
+        ..u
+    }
+}
+
 // The turn of the port at the scan position, made of the parts that it reads; what it changes is put into the record, and the position is one on.
+// Inlined, since a call would copy the answer once more at each turn of a sweep.
 #[tactic(auto, unfolding(crate::specs::Scan::scanned, crate::specs::Scan::next_pos, unit::specs::Record::port_at))]
+#[inline(always)]
 pub fn take_turn(u: &mut Mux, mem: &mut Memory) -> Answer
     requires { Sound u.old }
     ensures { looked (answered (answer_of result) u.new) mem.new ≡ scanned u.old mem.old }
