@@ -5,11 +5,13 @@ mod asked;
 mod draw;
 mod say;
 
-ghost use Rattle.picture.specs.Typing.{takes};
+ghost use Rattle.driver.specs.Text.{HeardFrom};
+ghost use Rattle.picture.specs.Typing.{nothing, taken, typing_of, takes};
 
 use crate::asked::asked_for;
 use crate::say::ASK;
 use driver::read::{Line, Takes, blank, read_all, typed};
+use std::io::Read;
 
 // What is typed of a line: its numbers, where there is anything.
 #[derive(Clone, Copy)]
@@ -41,10 +43,19 @@ fn print_picture(rt: &impl Print, line: Line) {
     };
 }
 
+// All that is typed, from a line on of which nothing is typed; the line at its end.
+#[tactic(auto, using(crate::specs::laws::Typing::heard_typed))]
+fn all_typed<R: Read, P: Print>(reader: &mut R, rt: &P) -> Typing
+    ensures { HeardFrom (R.remaining reader.old) (R.remaining reader.new) taken nothing (typing_of result) }
+{
+    let mut typing = Typing { line: None };
+    read_all(reader, rt, &mut typing);
+    typing
+}
+
 // A last line that has no end is answered too.
 fn main(rt: HostRuntime) {
-    let mut typing = Typing { line: None };
-    read_all(&mut rt.reader(), &rt, &mut typing);
+    let typing = all_typed(&mut rt.reader(), &rt);
     if let Some(line) = typing.line {
         print_picture(&rt, typed(line, b'\n'));
     }

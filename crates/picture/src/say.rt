@@ -1,4 +1,7 @@
 // The picture, printed: a line that says what it is, the marks, the spaces, and the letters below them.
+ghost use Rattle.std.specs.Prelude.{◌≡◌};
+ghost use Rattle.picture.specs.Words.{parity_words, stop_words};
+
 use crate::asked::Asked;
 use crate::draw::{Row, drawn};
 use framing::form::{Form, Parity, Stops};
@@ -9,7 +12,9 @@ pub const ASK: &str =
     "please type data bits (5 to 8), parity (0 none, 1 odd, 2 even), stop cells (2, 3 or 4) and a character (0 to 255)";
 
 // The parity, in words.
-fn parity_words(parity: Parity) -> &'static str {
+fn parity_words(parity: Parity) -> &'static str
+    ensures { result.now ≡ parity_words parity }
+{
     match parity {
         Parity::Inhibited => "no parity",
         Parity::Odd => "odd parity",
@@ -18,7 +23,9 @@ fn parity_words(parity: Parity) -> &'static str {
 }
 
 // The stop, in words.
-fn stop_words(stops: Stops) -> &'static str {
+fn stop_words(stops: Stops) -> &'static str
+    ensures { result.now ≡ stop_words stops }
+{
     match stops {
         Stops::One => "1 stop",
         Stops::OneAndHalf => "1.5 stops",

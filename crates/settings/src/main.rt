@@ -5,11 +5,14 @@ mod advice;
 mod say;
 mod typed;
 
+ghost use Rattle.driver.specs.Text.{HeardFrom};
+ghost use Rattle.settings.specs.Typed.{blank};
 ghost use Rattle.settings.specs.Answer.{taken};
 
 use crate::say::answered;
 use crate::typed::{Line, blank, started, typed};
 use driver::read::{Takes, read_all};
+use std::io::Read;
 
 // What is typed; at the end of a line it is answered, and the next begins.
 impl Takes for Line {
@@ -31,10 +34,18 @@ fn print_answer(rt: &impl Print, t: Line) {
     let _ = rt.println(answered(t));
 }
 
+// All that is typed, from a blank line on; the line at its end.
+fn all_typed<R: Read, P: Print>(reader: &mut R, rt: &P) -> Line
+    ensures { HeardFrom (R.remaining reader.old) (R.remaining reader.new) taken blank result }
+{
+    let mut line = blank();
+    read_all(reader, rt, &mut line);
+    line
+}
+
 // A last line that has no end is answered too.
 fn main(rt: HostRuntime) {
-    let mut line = blank();
-    read_all(&mut rt.reader(), &rt, &mut line);
+    let line = all_typed(&mut rt.reader(), &rt);
     if started(line) {
         print_answer(&rt, line);
     }

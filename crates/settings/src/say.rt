@@ -1,5 +1,7 @@
 // What a caretaker is answered: setup's word on the setting, the sentence for its number, and what to type instead.
+ghost use Rattle.std.specs.Prelude.{◌≡◌};
 ghost use Rattle.settings.specs.Answer.{Says, answer_to};
+ghost use Rattle.settings.specs.Sentence.{sentence};
 
 use crate::advice::advised;
 use crate::typed::{Line, setting_of, whole};
@@ -34,7 +36,9 @@ pub fn answered(t: Line) -> Answer
 }
 
 // The sentence for a refusal, as docs/CARETAKER.md has it.
-fn sentence(refusal: Refusal) -> &'static str {
+fn sentence(refusal: Refusal) -> &'static str
+    ensures { result.now ≡ sentence refusal }
+{
     match refusal {
         Refusal::BadBlock => "the block size is not 8, 16 or 32",
         Refusal::BadPorts => "the number of ports is 0, or above 128",

@@ -1,4 +1,7 @@
 // What a call asks.
+ghost use Rattle.std.specs.Prelude.{◌≡◌};
+ghost use Rattle.telling.specs.Words.{kind_words, glottal_words, order_words, mark};
+
 use calls::call::{Act, Call, What};
 use interrupt::Kind;
 use lines::signal::Signal;
@@ -8,7 +11,9 @@ use unit::mux::Setting;
 use words::special::special_in;
 
 // A kind of unit.
-fn kind_words(k: Kind) -> &'static str {
+fn kind_words(k: Kind) -> &'static str
+    ensures { result.now ≡ kind_words k }
+{
     match k {
         Kind::Eds8 => "an EDS-8",
         Kind::MightyMux => "a Mighty Mux",
@@ -16,7 +21,9 @@ fn kind_words(k: Kind) -> &'static str {
 }
 
 // What the set says of the glottal stop.
-fn glottal_words(codes: [bool; 128]) -> &'static str {
+fn glottal_words(codes: [bool; 128]) -> &'static str
+    ensures { result.now ≡ glottal_words codes }
+{
     if special_in(codes, 0o174) {
         "special"
     } else {
@@ -25,7 +32,9 @@ fn glottal_words(codes: [bool; 128]) -> &'static str {
 }
 
 // What the processor does.
-fn order_words(o: Order) -> &'static str {
+fn order_words(o: Order) -> &'static str
+    ensures { result.now ≡ order_words o }
+{
     match o {
         Order::Reset => "reset",
         Order::Iopls => "IOPLS",
@@ -50,7 +59,9 @@ fn write_setting<W: fmt::Write>(f: &mut fmt::Formatter<W>, s: Setting) -> fmt::R
 }
 
 // A mark, where it is on.
-fn mark(on: bool, words: &'static str) -> &'static str {
+fn mark(on: bool, words: &'static str) -> &'static str
+    ensures { result.now ≡ mark on words.now }
+{
     if on { words } else { "" }
 }
 
