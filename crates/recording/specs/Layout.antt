@@ -8,7 +8,7 @@
 --     host write   06 | 00 04 | address  . | word  .
 --     the others   07 to 0F | 00 00: inspection, reset, IOPLS, START, DOC, DOB, DIA, DIAS, tick
 --   Width, Part, Layout   how wide a part is, what may stand in it, and a tag's parts
---   wide, part_of, layout_in   the same as the code has them
+--   wide, width_in, part_of, layout_in   the same as the code has them
 --   width_of, size     how many bytes a part takes
 --   most              the greatest number that may stand in it
 --   known             the tags that there are
@@ -55,6 +55,10 @@ abbrev pub wide : Widths.Width → Width
 wide Wide.One = One
 wide Wide.Two = Two
 wide Wide.Four = Four
+
+abbrev pub width_in : Option Widths.Width → Width
+width_in None = Zero
+width_in (Some w) = wide w
 
 abbrev pub part_of : Option Parts.Part → Part
 part_of None = Unused

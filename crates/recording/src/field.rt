@@ -21,8 +21,8 @@ fn put_number(out: &mut [u8], at: usize, w: Width, n: u32) -> usize
     ensures { Put (bytes_of (wide w) n) at out.old result out.new }
 {
     let bytes = n.to_be_bytes();
-    let end = at + size(w);
-    out[at..end].copy_from_slice(&bytes[4 - size(w)..]);
+    let end = at + size(Some(w));
+    out[at..end].copy_from_slice(&bytes[4 - size(Some(w))..]);
     end
 }
 
@@ -31,9 +31,9 @@ fn put_part(out: &mut [u8], at: usize, p: Option<Part>, n: u32) -> usize
     requires { at + size (width_of (part_of p)) ≤ length out.old }
     ensures { Put (bytes_of (width_of (part_of p)) n) at out.old result out.new }
 {
-    match p {
+    match width_of(p) {
         None => at,
-        Some(p) => put_number(out, at, width_of(p), n),
+        Some(w) => put_number(out, at, w, n),
     }
 }
 
@@ -127,9 +127,9 @@ fn part_at(bytes: &[u8], at: usize, p: Option<Part>) -> u32
     requires { at < 128 }
     ensures { result ≡ number_in (width_of (part_of p)) (drop at bytes.now) }
 {
-    match p {
+    match width_of(p) {
         None => 0,
-        Some(p) => number_at(bytes, at, width_of(p)),
+        Some(w) => number_at(bytes, at, w),
     }
 }
 

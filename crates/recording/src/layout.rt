@@ -3,7 +3,7 @@
 
 ghost use Rattle.std.specs.Prelude.{◌≡◌, false};
 ghost use Rattle.ground.specs.Choose.{Below};
-ghost use Rattle.recording.specs.Layout.{wide, part_of, layout_in, width_of, size, most, layout_of, numbers_length, data_length, field_length};
+ghost use Rattle.recording.specs.Layout.{width_in, part_of, layout_in, width_of, size, most, layout_of, numbers_length, data_length, field_length};
 
 use crate::tag::Tag;
 
@@ -33,22 +33,22 @@ pub struct Layout {
     pub set: bool,
 }
 
-// The width of a part.
-pub fn width_of(p: Part) -> Width
-    ensures { wide result ≡ width_of (part_of (Some p)) }
+// The width of a part; one that is not used has none.
+pub fn width_of(p: Option<Part>) -> Option<Width>
+    ensures { width_in result ≡ width_of (part_of p) }
 {
-    match p {
-        Part::YesNo | Part::Kind | Part::Byte => Width::One,
-        Part::Address | Part::Word => Width::Two,
-        Part::Number => Width::Four,
+    match p? {
+        Part::YesNo | Part::Kind | Part::Byte => Some(Width::One),
+        Part::Address | Part::Word => Some(Width::Two),
+        Part::Number => Some(Width::Four),
     }
 }
 
-// A width in bytes.
-pub fn size(w: Width) -> usize
-    ensures { Below 5 (size (wide w)) result }
+// A width in bytes; none is no byte.
+pub fn size(w: Option<Width>) -> usize
+    ensures { Below 5 (size (width_in w)) result }
 {
-    w as usize
+    w.map_or(0, |w| w as usize)
 }
 
 // The greatest number that may stand in a part; one that is not used is 0.
@@ -105,7 +105,7 @@ pub fn layout_of(tag: u8) -> Layout
 pub fn part_size(p: Option<Part>) -> usize
     ensures { Below 5 (size (width_of (part_of p))) result }
 {
-    p.map_or(0, |p| size(width_of(p)))
+    size(width_of(p))
 }
 
 // How many bytes the four numbers take.

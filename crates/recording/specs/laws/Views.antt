@@ -2,25 +2,31 @@
 --   number_some, number_one   no refusal has the number 0, and no two have one number
 --   code_one, done_one        so each answer has numbers of its own
 --   tag_one                   each tag has a number of its own
---   wide_one, part_one        and each width and each part its own in the table
+--   wide_one, width_one, part_one   and each width and each part its own in the table, and so has none of either
+--   layout_one                and so has each tag's layout
+--   one_one                   what is said of the event at an offset, by it and by whether there is one, is so of one answer alone
 --   pass_one                  and so has each state of the pass that checks
 -- Not here: the numbers, in Fault; the answers, in Scan.
 -- Assumes nothing.
-use Rattle.std.specs.Prelude.{◌≡◌, ℕ, Option, None, Some, Result, Ok, Err, ◌≢◌, ◌==◌, refl}
+use Rattle.std.specs.Prelude.{◌≡◌, ℕ, zero, suc, false, true, Option, None, Some, IsSome, Result, Ok, Err, ◌↔◌, List, length, drop, get_or, ◌==◌, ◌≢◌, ◌<◌, refl}
 use Rattle.std.proofs.Common.{sym, ◌∙◌, ap, arith}
+use Rattle.std.proofs.lemmas.List.{ext_get_or}
 use Rattle.ground.specs.Choose.{pick}
 use Rattle.recording.specs.declared.fault.Fault.{Fault}
 use Rattle.recording.specs.declared.fault.Fault.TheVariants.{UnknownTag, WrongLength, CutShort, NoRoom, BadValue}
 use Rattle.recording.specs.declared.fault.Refused.{Refused}
 use Rattle.recording.specs.declared.layout.Width as Widths
 use Rattle.recording.specs.declared.layout.Part as Parts
+use Rattle.recording.specs.declared.layout.Layout as Layouts
 use Rattle.recording.specs.declared.pass.Pass as Passes
+use Rattle.recording.specs.declared.reading.One as Found
 use Rattle.recording.specs.declared.tag.Tag.{Tag}
 use Rattle.recording.specs.declared.tag.Tag.TheVariants.{Setup, Arrival, TransmitterEmpty, DeviceStatus, Sweep, HostWrite, Inspection, Reset, Iopls, Start, Doc, Dob, Dia, Dias, Tick}
 use Rattle.recording.specs.Fault.{number_of, code_of}
 use Rattle.recording.specs.Tag.{tag_number}
-use Rattle.recording.specs.Layout.{wide, part_of}
-use Rattle.recording.specs.Scan.{Done, done_of}
+use Rattle.recording.specs.Layout.{Layout, wide, width_in, part_of, layout_in}
+use Rattle.recording.specs.Field.{field_code}
+use Rattle.recording.specs.Scan.{Done, done_of, one_of, one_at}
 use Rattle.recording.specs.Pass.{Pass, full_code, full_at, pass_of}
 
 pub number_some : (f : Fault) → number_of f ≢ 0
@@ -94,8 +100,39 @@ tag_one t u e = sym (tag_back t) ∙ ap tag_at e ∙ tag_back u
 pub wide_one : (v w : Widths.Width) → wide v ≡ wide w → v ≡ w
 wide_one v w e = grind arith
 
+pub width_one : (v w : Option Widths.Width) → width_in v ≡ width_in w → v ≡ w
+width_one v w e = grind arith
+
 pub part_one : (p q : Option Parts.Part) → part_of p ≡ part_of q → p ≡ q
 part_one p q e = grind arith
+
+-- as the code has it, four parts
+pub layout_one : (l m : Layouts.Layout) → length l.parts ≡ 4 → length m.parts ≡ 4 → layout_in l ≡ layout_in m → l ≡ m
+layout_one l m ll lm e =
+    let same : l.parts ≡ m.parts = ext_get_or None l.parts m.parts (ll ∙ sym lm) (λ i h. each i (omega (arith, h, ll))) in
+    λ i. record { parts = same i; set = (e i).set }
+  where
+    each : (i : ℕ) → i < 4 → get_or l.parts i None ≡ get_or m.parts i None
+    each zero h = part_one (get_or l.parts 0 None) (get_or m.parts 0 None) (ap (λ (x : Layout). x.first) e)
+    each (suc zero) h = part_one (get_or l.parts 1 None) (get_or m.parts 1 None) (ap (λ (x : Layout). x.second) e)
+    each (suc (suc zero)) h = part_one (get_or l.parts 2 None) (get_or m.parts 2 None) (ap (λ (x : Layout). x.third) e)
+    each (suc (suc (suc zero))) h = part_one (get_or l.parts 3 None) (get_or m.parts 3 None) (ap (λ (x : Layout). x.fourth) e)
+    each (suc (suc (suc (suc i)))) h = absurd (omega (arith, h))
+
+-- ---- the event at an offset
+
+other : false ≡ true → ⊥
+other e = cc
+
+-- the two clauses of `read_one` let one answer
+pub one_one : (bytes : List ℕ) (at : ℕ) (r s : Option Found.One)
+    → one_of at r ≡ one_at bytes at → (IsSome r ↔ (field_code (drop at bytes) ≡ 0)) → one_of at s ≡ one_at bytes at → (IsSome s ↔ (field_code (drop at bytes) ≡ 0)) → r ≡ s
+one_one bytes at None None p f q g = refl
+one_one bytes at None (Some y) p f q g = absurd (other (f.1 (g.0 refl)))
+one_one bytes at (Some x) None p f q g = absurd (other (g.1 (f.0 refl)))
+one_one bytes at (Some x) (Some y) p f q g =
+    let same : one_of at (Some x) ≡ one_of at (Some y) = p ∙ sym q in
+    λ i. Some (record { event = (same i).event; next = (same i).next })
 
 -- ---- the pass
 
