@@ -3,20 +3,18 @@
 --   fault, full          the first event at fault; the first whose field has no room
 --   Wrote, wrote, write  the call: what it answers, and every byte
 --   Kept, kept           a state and what is lent beside it
---   Pass, pass_of, came_of   how far a pass has come; the same as the code has it
 --   first_pass, counted, faulted, checked_on   the pass that checks
 --   second_pass, may_put, put_on   the pass that puts
 --   passed, checked_all, told   one event of either; every event by the pass that checks; the answer
 -- Not here: that the two passes come to the call, in laws/Passes.
 -- Assumes nothing.
-use Rattle.std.specs.Prelude.{ℕ, Option, None, Some, Result, Ok, Err, ◌+◌, ◌%◌, ◌^◌, Bool, true, false, not, ◌&&◌, List, [], ◌∷◌, ◌++◌, length, drop, ◌==◌, nat_le}
+use Rattle.std.specs.Prelude.{ℕ, ◌+◌, ◌%◌, ◌^◌, Bool, true, false, not, ◌&&◌, List, [], ◌∷◌, ◌++◌, length, drop, ◌==◌, nat_le}
 use Rattle.ground.specs.Choose.{pick}
 use Rattle.ground.specs.Machine.{run}
-use Rattle.recording.specs.declared.fault.Refused.{Refused}
 use Rattle.recording.specs.declared.event.Event.{Event}
-use Rattle.recording.specs.declared.pass.Pass as Passes
-use Rattle.recording.specs.Fault.{number_of}
-use Rattle.recording.specs.Scan.{Done, done}
+use Rattle.recording.specs.declared.pass.Pass.{Pass}
+use Rattle.recording.specs.declared.reading.Done.{Done}
+use Rattle.recording.specs.Scan.{done}
 use Rattle.recording.specs.Layout.{field_length}
 use Rattle.recording.specs.Event.{NO-ROOM, event_code}
 use Rattle.recording.specs.Field.{field, pasted}
@@ -63,31 +61,6 @@ pub record Kept (S : Type 0) : Type 0 where
 
 abbrev pub kept : {S : Type 0} → S → List ℕ → Kept S
 kept s xs = record { state = s; lent = xs }
-
--- how far a pass has come: whether it puts, what is at fault and where, the offset, and how many bytes are lent
-pub record Pass : Type 0 where
-  pub puts : Bool
-  pub code : ℕ
-  pub found : ℕ
-  pub at : ℕ
-  pub room : ℕ
-
--- the code's pass that checks: nothing is at fault so far, but that it may be full at an offset
-abbrev pub full_code : Option ℕ → ℕ
-full_code None = 0
-full_code (Some at) = NO-ROOM
-
-abbrev pub full_at : Option ℕ → ℕ
-full_at None = 0
-full_at (Some at) = at
-
-abbrev pub pass_of : Passes.Pass → Pass
-pass_of p = record { puts = false; code = full_code p.full; found = full_at p.full; at = p.at; room = p.room }
-
--- what comes of it, with so many bytes lent: it goes on, or stands where something is at fault
-abbrev pub came_of : ℕ → Result Passes.Pass Refused → Pass
-came_of room (Ok p) = pass_of p
-came_of room (Err r) = record { puts = false; code = number_of r.fault; found = r.at; at = r.at; room = room }
 
 abbrev pub first_pass : ℕ → Pass
 first_pass room = record { puts = false; code = 0; found = 0; at = 0; room = room }

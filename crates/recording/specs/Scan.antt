@@ -1,6 +1,7 @@
 -- Bytes read field by field into a lent list of events (document 02, K8).
---   Done, done, begun        an answer: refusal number or 0, offset, and how much was written
---   done_of, Comes, one_of   the same as the code has them
+--   done, begun              an answer: refusal number or 0, offset, and how much was written
+--   done_of, Answers         the same as a result has them, and that one has
+--   Comes, one_of            how far the code's reading on comes, and its event at an offset
 --   going, scan_one, scanned  reading on, field by field, up to the first at fault
 --   checked                  what reading answers: the first fault anywhere; only then 18
 --   Checks                   the same with its bound
@@ -12,18 +13,13 @@ use Rattle.std.specs.Prelude.{◌≡◌, ℕ, Option, None, Some, Result, Ok, Er
 use Rattle.ground.specs.Choose.{pick}
 use Rattle.recording.specs.declared.fault.Refused.{Refused}
 use Rattle.recording.specs.declared.event.Event.{Event}
+use Rattle.recording.specs.declared.reading.Done.{Done}
 use Rattle.recording.specs.declared.reading.Reach.{Reach}
 use Rattle.recording.specs.declared.reading.One as Found
 use Rattle.recording.specs.Fault.{number_of}
 use Rattle.recording.specs.Layout.{field_length}
 use Rattle.recording.specs.Event.{NO-ROOM, no_event}
 use Rattle.recording.specs.Field.{tag_in, event_in, field_code}
-
--- the refusal number or 0, the offset of the tag at fault, and how much was written
-pub record Done : Type 0 where
-  pub code : ℕ
-  pub at : ℕ
-  pub count : ℕ
 
 -- an event, and the offset after its field
 pub record One : Type 0 where
@@ -36,10 +32,15 @@ done c at n = record { code = c; at = at; count = n }
 abbrev pub begun : Done
 begun = done 0 0 0
 
--- the code's answer, by its numbers: a refusal counts nothing
+-- a result, by its numbers: a refusal counts nothing
 abbrev pub done_of : Result ℕ Refused → Done
 done_of (Ok n) = done 0 0 n
 done_of (Err r) = done (number_of r.fault) r.at 0
+
+-- such numbers as some result has
+pub record Answers (d : Done) : Type 0 where
+  pub result : Result ℕ Refused
+  pub is : done_of result ≡ d
 
 -- how far the code's reading on comes: so many fields and no fault, or a fault at an offset
 abbrev pub Comes : Result Reach Refused → Done → Type 0

@@ -22,6 +22,26 @@ impl From<Fault> for u8 {
     }
 }
 
+// The fault of a number, or the number where none has it.
+impl TryFrom<u8> for Fault {
+    type Error = u8;
+
+    ghost use Rattle.recording.specs.Fault.{Faults};
+
+    ghost try_from_gives = { Faults };
+
+    fn try_from(code: u8) -> Result<Fault, u8> {
+        match code {
+            13 => Ok(Fault::UnknownTag),
+            14 => Ok(Fault::WrongLength),
+            15 => Ok(Fault::CutShort),
+            18 => Ok(Fault::NoRoom),
+            21 => Ok(Fault::BadValue),
+            _ => Err(code),
+        }
+    }
+}
+
 // What is at fault, and at which offset its tag stands.
 #[derive(Clone, Copy, PartialEq, Eq, Debug)]
 pub struct Refused {

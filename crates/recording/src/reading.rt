@@ -10,6 +10,14 @@ use crate::fault::{Fault, Refused};
 use crate::field::{check_field, event_in, tag_in};
 use crate::layout::field_length;
 
+// A refusal number or 0, the offset of the tag at fault, and how much was written.
+#[derive(Clone, Copy)]
+pub struct Done {
+    pub code: u8,
+    pub at: usize,
+    pub count: usize,
+}
+
 // How far reading on has come: the offset, and how many fields there were.
 #[derive(Clone, Copy)]
 struct Reach {

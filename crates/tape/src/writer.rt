@@ -1,44 +1,44 @@
 // Writing a list of events into lent bytes.
-ghost use Rattle.std.specs.Prelude.{◌≡◌, ◌≤◌, ◌++◌, length, take, drop};
+ghost use Rattle.std.specs.Prelude.{◌≡◌, take};
 ghost use Rattle.ground.specs.Machine.{run};
-ghost use Rattle.recording.specs.Scan.{done_of};
-ghost use Rattle.recording.specs.Pass.{pass_of, came_of, checked_on, written, wrote, write};
+ghost use Rattle.recording.specs.Scan.{done_of, Answers};
+ghost use Rattle.recording.specs.Pass.{kept, passed, wrote, write};
 
 use recording::event::Event;
-use recording::fault::Refused;
-use recording::field::put_field;
-use recording::pass::{Pass, check_on, first_pass, told};
+use recording::fault::{Fault, Refused};
+use recording::pass::{Pass, first_pass, pass_one, second_pass, told};
+use recording::reading::Done;
 
-// The pass that checks, over the events; a fault ends it.
-fn check_all(p: Pass, events: &[Event]) -> Result<Pass, Refused>
-    ensures { came_of p.room result ≡ run checked_on (pass_of p) events.now }
+// One pass over the events.
+pub fn pass_all(v: Pass, out: &mut [u8], events: &[Event]) -> Pass
+    ensures { kept result out.new ≡ run passed (kept v out.old) events.now }
 {
-    let mut q = p;
+    let mut w = v;
     for e in events {
-        q = check_on(q, *e)?;
+        w = pass_one(w, out, *e);
     }
-    Ok(q)
+    w
 }
 
-// The pass that puts, over events that have room: one field after the other.
-fn put_all(events: &[Event], out: &mut [u8])
-    requires { length (written events.now) ≤ length out.old }
-    ensures { out.new ≡ written events.now ++ drop (length (written events.now)) out.old }
+// An answer by its number, as a result.
+fn answer(d: Done) -> Result<usize, Refused>
+    requires { Answers d }
+    ensures { done_of result ≡ d }
 {
-    let mut at = 0;
-    for e in events {
-        at = put_field(out, at, *e);
+    if d.code == 0 {
+        return Ok(d.count);
     }
+    let fault = Fault::try_from(d.code).unwrap();
+    Err(Refused { fault, at: d.at })
 }
 
 // Writing: a pass that checks, and a pass that puts where nothing was at fault.
 pub fn write(events: &[Event], out: &mut [u8]) -> Result<usize, Refused>
     ensures { wrote (done_of result) out.new ≡ write events.now out.old }
 {
-    let p = check_all(first_pass(out.len()), events)?;
-    let count = told(p)?;
-    put_all(events, out);
-    Ok(count)
+    let checked = pass_all(first_pass(out.len()), out, events);
+    pass_all(second_pass(checked), out, events);
+    answer(told(checked))
 }
 
 // The same, of the first of eight events by value: whoever calls it needs no walk by hand.

@@ -9,7 +9,8 @@ use Rattle.std.specs.Prelude.{◌≡◌, ℕ, ◌+◌, ◌<◌, ◌≤◌, List,
 use Rattle.std.proofs.Common.{sym, ◌∙◌, ap, arith}
 use Rattle.std.proofs.Math.Seq.{take-append_seam}
 use Rattle.recording.specs.declared.event.Event.{Event}
-use Rattle.recording.specs.Scan.{Done, done, Reading, reading, read}
+use Rattle.recording.specs.declared.reading.Done.{Done}
+use Rattle.recording.specs.Scan.{done, Reading, reading, read}
 use Rattle.recording.specs.Layout.{field_length}
 use Rattle.recording.specs.Event.{NO-ROOM, event_code}
 use Rattle.recording.specs.Pass.{written, Wrote, wrote, write}

@@ -4,7 +4,8 @@
 use Rattle.std.specs.Prelude.{◌≡◌, ℕ, List}
 use Rattle.std.proofs.Common.{sym, ◌∙◌, ap}
 use Rattle.recording.specs.declared.event.Event.{Event}
-use Rattle.recording.specs.Scan.{Done, Reading, reading, read}
+use Rattle.recording.specs.declared.reading.Done.{Done}
+use Rattle.recording.specs.Scan.{Reading, reading, read}
 use Rattle.recording.specs.Pass.{Wrote, wrote, write}
 
 -- of writing: the answer, and every byte of the list

@@ -10,28 +10,35 @@
 --   Fits, write_accepts  what is accepted
 --   code_settled, check_stays, check_room, run_stays   what an event at fault, or any, leaves of it
 --   checks_all, told_bad, fault_told, run_fine, full_told   the pass that checks
+--   told_answers         what it tells is an answer
 --   put_stop, put_all    the pass that puts
 --   two_passes           both, one after the other
 -- Not here: one event of a pass, in laws/Steps; reading back what is written, in laws/Undo.
 -- Assumes nothing.
-use Rattle.std.specs.Prelude.{◌≡◌, ℕ, ◌+◌, ◌*◌, ◌^◌, ◌<◌, ◌≤◌, Bool, true, false, not, ◌&&◌, ◌↔◌, List, [], ◌∷◌, ◌++◌, length, drop, ◌==◌, ◌≢◌, nat_eq, nat_le}
+use Rattle.std.specs.Prelude.{◌≡◌, ℕ, Result, Ok, Err, ◌+◌, ◌*◌, ◌^◌, ◌<◌, ◌≤◌, Bool, true, false, not, ◌&&◌, ◌↔◌, List, [], ◌∷◌, ◌++◌, length, drop, ◌==◌, ◌≢◌, nat_eq, nat_le}
 use Rattle.std.proofs.Math.Path.{refl}
 use Rattle.std.proofs.Common.{sym, ◌∙◌, ap, subst, append-nil, zero-add, add-zero, lt_of_not-le, arith, length-append, le-leb, eq-eqb, ne_eqb}
 use Rattle.std.proofs.Math.Nat.{mod-eq_of_lt}
 use Rattle.std.proofs.Math.Decide.{ℕ_discrete, dec_le}
 use Rattle.std.proofs.lemmas.Bool.{lt-leb}
-use Rattle.ground.specs.Choose.{pick, row}
+use Rattle.ground.specs.Choose.{pick, row, first_of}
 use Rattle.ground.specs.Machine.{run}
 use Rattle.ground.specs.laws.Machine.{run_keeps}
 use Rattle.ground.specs.laws.Rows.{pick_true, pick-false, never}
 use Rattle.recording.specs.Layout.{Layout, width_of, known, layout_of, numbers_length, field_length}
 use Rattle.recording.specs.declared.event.Event.{Event}
-use Rattle.recording.specs.Scan.{Done, done}
-use Rattle.recording.specs.Pass.{Pass, written, fault, full, Wrote, wrote, write, Kept, kept, first_pass, settled, counted, faulted, checked_on, may_put, passed, checked_all, second_pass, told}
+use Rattle.recording.specs.declared.reading.Done.{Done}
+use Rattle.recording.specs.declared.fault.Fault.{Fault}
+use Rattle.recording.specs.declared.fault.Fault.TheVariants.{UnknownTag, NoRoom, BadValue}
+use Rattle.recording.specs.Fault.{code_of}
+use Rattle.recording.specs.Scan.{done, Answers}
+use Rattle.recording.specs.declared.pass.Pass.{Pass}
+use Rattle.recording.specs.Pass.{written, fault, full, Wrote, wrote, write, Kept, kept, first_pass, settled, counted, faulted, checked_on, may_put, passed, checked_all, second_pass, told}
 use Rattle.recording.specs.Event.{UNKNOWN-TAG, NO-ROOM, BAD-VALUE, event_fits, event_code}
 use Rattle.recording.specs.Field.{field, pasted}
 use Rattle.recording.specs.laws.Layout.{size_at_most, data_marked, data_bare, field_length_lem}
 use Rattle.recording.specs.laws.Put.{pasted_none, pasted_then}
+use Rattle.recording.specs.laws.Views.{number_some}
 use Rattle.recording.specs.laws.Steps.{puts_on, checks_on, put_goes, put_stays, pasted_same}
 
 -- what is so of both values is so of the one that is chosen
@@ -366,6 +373,40 @@ full_told (e ∷ es) p c small f h =
     (λ z l. ap told (run_fine es (filled_to p (end p e)) refl within f.1 (λ no. absurd (omega (arith, no)))) ∙
     told_bad (filled_to p (end p e + length (written es))) (λ no. omega (arith, no)) ∙
     sym (full_here p.at e es p.room l))
+
+-- ---- what is told is an answer
+
+-- the number of nothing at fault, or of a fault
+pub record Numbered (n : ℕ) : Type 0 where
+  pub found : Result (Unit {0}) Fault
+  pub is : code_of found ≡ n
+
+event_numbered : (e : Event) → Numbered (event_code e)
+unfolding event_code first_of
+event_numbered e =
+    pick_both Numbered (not (known e.tag)) UNKNOWN-TAG (pick (not (event_fits e)) BAD-VALUE 0) (record { found = Err UnknownTag; is = refl })
+    (pick_both Numbered (not (event_fits e)) BAD-VALUE 0 (record { found = Err BadValue; is = refl }) (record { found = Ok tt; is = refl }))
+
+check_numbered : (p : Pass) (e : Event) → Numbered p.code → Numbered (checked_on p e).code
+unfolding checked_on counted
+check_numbered p e n =
+    let Named : Pass → Type 0 = λ q. Numbered q.code in
+    let room : Numbered (pick (nat_le (end p e) p.room) p.code NO-ROOM) = pick_both Numbered (nat_le (end p e) p.room) p.code NO-ROOM n (record { found = Err NoRoom; is = refl }) in
+    pick_both Named (settled p.code) p (checked_here p e) n
+    (pick_both Named (event_code e == 0) (onward p e) (faulted p (event_code e)) (pick_both Numbered (p.code == 0) (pick (nat_le (end p e) p.room) p.code NO-ROOM) p.code room n) (event_numbered e))
+
+pub told_answers : (es : List Event) (p : Pass) → Numbered p.code → Answers (told (run checked_on p es))
+told_answers es p n = go last.found last.is
+  where
+    q : Pass
+    q = run checked_on p es
+
+    last : Numbered q.code
+    last = run_keeps checked_on (λ (r : Pass). Numbered r.code) check_numbered p es n
+
+    go : (r : Result (Unit {0}) Fault) → code_of r ≡ q.code → Answers (told q)
+    go (Ok x) e = record { result = Ok q.at; is = sym (told_good q (sym e)) }
+    go (Err f) e = record { result = Err (record { fault = f; at = q.found }); is = ap (λ (c : ℕ). done c q.found 0) e ∙ sym (told_bad q (λ z. number_some f (e ∙ z))) }
 
 -- ---- the pass that puts
 

@@ -12,7 +12,8 @@ use Rattle.std.proofs.Common.{sym, ◌∙◌, ap, subst, append_assoc, append-ni
 use Rattle.std.proofs.Math.Decide.{ℕ_discrete, dec_le}
 use Rattle.std.proofs.Math.Seq.{drop-append_seam}
 use Rattle.recording.specs.declared.event.Event.{Event}
-use Rattle.recording.specs.Scan.{Done, done, begun, scanned, checked, heard, reading, read}
+use Rattle.recording.specs.declared.reading.Done.{Done}
+use Rattle.recording.specs.Scan.{done, begun, scanned, checked, heard, reading, read}
 use Rattle.recording.specs.Layout.{field_length}
 use Rattle.recording.specs.Event.{NO-ROOM}
 use Rattle.recording.specs.Field.{field, tag_in, event_in, field_code}

@@ -16,7 +16,8 @@ use Rattle.std.proofs.Math.Bool.{and-false}
 use Rattle.std.proofs.lemmas.Bool.{eqb-false}
 use Rattle.ground.specs.Choose.{pick}
 use Rattle.ground.specs.laws.Rows.{pick_true, pick-false}
-use Rattle.recording.specs.Scan.{Done, One, done, begun, going, scan_one, scanned, checked, one_at}
+use Rattle.recording.specs.declared.reading.Done.{Done}
+use Rattle.recording.specs.Scan.{One, done, begun, going, scan_one, scanned, checked, one_at}
 use Rattle.recording.specs.Layout.{field_length}
 use Rattle.recording.specs.Event.{NO-ROOM, no_event}
 use Rattle.recording.specs.Field.{tag_in, event_in, field_code}

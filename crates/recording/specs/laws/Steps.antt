@@ -10,7 +10,8 @@ use Rattle.std.proofs.Common.{sym, ◌∙◌, ap, arith, leb-true, leb-false, le
 use Rattle.std.proofs.lemmas.Bool.{lt-leb}
 use Rattle.ground.specs.laws.Rows.{pick_true, pick-false, and-true}
 use Rattle.recording.specs.declared.event.Event.{Event}
-use Rattle.recording.specs.Pass.{Pass, Kept, kept, checked_on, may_put, put_on, passed}
+use Rattle.recording.specs.declared.pass.Pass.{Pass}
+use Rattle.recording.specs.Pass.{Kept, kept, checked_on, may_put, put_on, passed}
 use Rattle.recording.specs.Layout.{field_length}
 use Rattle.recording.specs.Event.{event_code}
 use Rattle.recording.specs.Field.{field, pasted}

@@ -9,7 +9,8 @@ use Rattle.std.specs.Prelude.{◌≡◌, ℕ, suc, ◌+◌, ◌-◌, ◌<◌, �
 use Rattle.std.proofs.Common.{sym, ◌∙◌, ap, append_assoc, append-nil, zero-add, add-zero, suc-add, arith, length-append}
 use Rattle.std.proofs.Math.Seq.{drop-append_seam}
 use Rattle.recording.specs.declared.event.Event.{Event}
-use Rattle.recording.specs.Scan.{Done, One, done, begun, scanned, checked, heard, reading, read}
+use Rattle.recording.specs.declared.reading.Done.{Done}
+use Rattle.recording.specs.Scan.{One, done, begun, scanned, checked, heard, reading, read}
 use Rattle.recording.specs.Layout.{field_length}
 use Rattle.recording.specs.Event.{event_code}
 use Rattle.recording.specs.Field.{field, tag_in, event_in, field_code}

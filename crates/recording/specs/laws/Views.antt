@@ -5,7 +5,6 @@
 --   wide_one, width_one, part_one   and each width and each part its own in the table, and so has none of either
 --   layout_one                and so has each tag's layout
 --   one_one                   what is said of the event at an offset, by it and by whether there is one, is so of one answer alone
---   pass_one                  and so has each state of the pass that checks
 -- Not here: the numbers, in Fault; the answers, in Scan.
 -- Assumes nothing.
 use Rattle.std.specs.Prelude.{◌≡◌, ℕ, zero, suc, false, true, Option, None, Some, IsSome, Result, Ok, Err, ◌↔◌, List, length, drop, get_or, ◌==◌, ◌≢◌, ◌<◌, refl}
@@ -18,7 +17,6 @@ use Rattle.recording.specs.declared.fault.Refused.{Refused}
 use Rattle.recording.specs.declared.layout.Width as Widths
 use Rattle.recording.specs.declared.layout.Part as Parts
 use Rattle.recording.specs.declared.layout.Layout as Layouts
-use Rattle.recording.specs.declared.pass.Pass as Passes
 use Rattle.recording.specs.declared.reading.One as Found
 use Rattle.recording.specs.declared.tag.Tag.{Tag}
 use Rattle.recording.specs.declared.tag.Tag.TheVariants.{Setup, Arrival, TransmitterEmpty, DeviceStatus, Sweep, HostWrite, Inspection, Reset, Iopls, Start, Doc, Dob, Dia, Dias, Tick}
@@ -26,8 +24,8 @@ use Rattle.recording.specs.Fault.{number_of, code_of}
 use Rattle.recording.specs.Tag.{tag_number}
 use Rattle.recording.specs.Layout.{Layout, wide, width_in, part_of, layout_in}
 use Rattle.recording.specs.Field.{field_code}
-use Rattle.recording.specs.Scan.{Done, done_of, one_of, one_at}
-use Rattle.recording.specs.Pass.{Pass, full_code, full_at, pass_of}
+use Rattle.recording.specs.declared.reading.Done.{Done}
+use Rattle.recording.specs.Scan.{done_of, one_of, one_at}
 
 pub number_some : (f : Fault) → number_of f ≢ 0
 number_some UnknownTag e = omega (arith, e)
@@ -133,16 +131,3 @@ one_one bytes at (Some x) None p f q g = absurd (other (g.1 (f.0 refl)))
 one_one bytes at (Some x) (Some y) p f q g =
     let same : one_of at (Some x) ≡ one_of at (Some y) = p ∙ sym q in
     λ i. Some (record { event = (same i).event; next = (same i).next })
-
--- ---- the pass
-
-full_one : (m n : Option ℕ) → full_code m ≡ full_code n → full_at m ≡ full_at n → m ≡ n
-full_one None None c a = refl
-full_one None (Some n) c a = absurd (omega (arith, c))
-full_one (Some m) None c a = absurd (omega (arith, c))
-full_one (Some m) (Some n) c a = let same : m ≡ n = a in λ i. Some (same i)
-
-pub pass_one : (p q : Passes.Pass) → pass_of p ≡ pass_of q → p ≡ q
-pass_one p q e =
-    let full : p.full ≡ q.full = full_one p.full q.full (ap (λ (r : Pass). r.code) e) (ap (λ (r : Pass). r.found) e) in
-    λ i. record { full = full i; at = (e i).at; room = (e i).room }

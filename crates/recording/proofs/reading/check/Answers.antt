@@ -2,7 +2,8 @@
 use Rattle.std.proofs.Common.{◌≡◌, length, refl, sym, ap, ◌∙◌, arith}
 use Rattle.std.proofs.lemmas.Result.{err_from_is_err_and}
 use Rattle.recording.specs.Event.{NO-ROOM}
-use Rattle.recording.specs.Scan.{Done, done, begun, scanned}
+use Rattle.recording.specs.declared.reading.Done.{Done}
+use Rattle.recording.specs.Scan.{done, begun, scanned}
 use Rattle.recording.specs.laws.Scan.{check_fault, check_full, check_all, scan_count, scan_clean}
 use Rattle.recording.specs.laws.Views.{number_some}
 use Rattle.recording.proofs.reading.check.Goals as goal

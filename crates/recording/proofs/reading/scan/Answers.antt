@@ -3,7 +3,8 @@ use Rattle.std.proofs.Common.{◌≡◌, ℕ, suc, ◌+◌, ◌-◌, ◌<◌, Bo
 use Rattle.std.proofs.lemmas.Result.{err_from_is_err_and}
 use Rattle.recording.specs.declared.fault.Refused.{Refused}
 use Rattle.recording.specs.Fault.{number_of}
-use Rattle.recording.specs.Scan.{Done, done, begun, scan_one, scanned}
+use Rattle.recording.specs.declared.reading.Done.{Done}
+use Rattle.recording.specs.Scan.{done, begun, scan_one, scanned}
 use Rattle.recording.specs.laws.Scan.{scan_on, scan-end, one_count, goes, stops}
 use Rattle.recording.specs.laws.Views.{number_some}
 use Rattle.recording.proofs.reading.scan.Goals as goal

@@ -3,7 +3,8 @@ use Rattle.std.proofs.Common.{◌≡◌, ℕ, suc, ◌+◌, ◌-◌, ◌<◌, Li
 use Rattle.std.proofs.lemmas.Result.{err_from_is_err_and}
 use Rattle.std.proofs.Math.Seq.{drop-length}
 use Rattle.recording.specs.declared.event.Event.{Event}
-use Rattle.recording.specs.Scan.{Done, One, done, begun, scanned, one_of, one_at, heard, reading, read}
+use Rattle.recording.specs.declared.reading.Done.{Done}
+use Rattle.recording.specs.Scan.{One, done, begun, scanned, one_of, one_at, heard, reading, read}
 use Rattle.recording.specs.laws.Fill.{fill, fill_none, fill_more, fill_is}
 use Rattle.recording.specs.laws.Reads.{check_counts, read-refused}
 use Rattle.recording.specs.laws.Scan.{field_here, fields_behind}
