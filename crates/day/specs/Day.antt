@@ -15,7 +15,8 @@ use Rattle.unit.specs.Record.{no_mux}
 use Rattle.unit.specs.Reply.{Reply, World, world, Looked}
 use Rattle.recording.specs.declared.event.Event.{Event}
 use Rattle.recording.specs.Pass.{Kept, kept}
-use Rattle.stream.specs.Stream.{Stream, begun, took, ready, event}
+use Rattle.stream.specs.declared.Stream.{Stream}
+use Rattle.stream.specs.Stream.{begun, took, ready, event}
 use Rattle.replay.specs.Replay.{plays}
 use Rattle.day.specs.Names.{View, viewed, begins}
 

@@ -37,12 +37,11 @@ struct Day {
 
 impl Model for Day {
     ghost use Rattle.recording.specs.Pass.{kept};
-    ghost use Rattle.stream.specs.Stream.{stream_of};
     ghost use Rattle.day.specs.Day.{KeptDay, day_of};
 
     ghost Value = { KeptDay };
 
-    ghost view = { λ d. kept (day_of (stream_of d.stream) d.unit d.begin) d.memory };
+    ghost view = { λ d. kept (day_of d.stream d.unit d.begin) d.memory };
 }
 
 // One event, played with a list of 4096 zeros, and said.

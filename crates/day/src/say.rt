@@ -1,6 +1,7 @@
 // One event in words, and the last line.
 use recording::event::Event;
-use recording::fault::{Fault, Refused};
+use recording::fault::Fault;
+use recording::reading::Done;
 use recording::tag::Tag;
 use replay::call::call_of;
 use std::fmt;
@@ -69,28 +70,26 @@ impl fmt::Display for Played<'_> {
 }
 
 // Why a field is refused.
-fn why(fault: Fault) -> &'static str {
-    match fault {
-        Fault::UnknownTag => "no field has this tag",
-        Fault::WrongLength => "a field of this tag has another length",
-        Fault::CutShort => "the recording ends within this field",
-        Fault::BadValue | Fault::NoRoom => "a part of this field has a value that it cannot have",
+fn why(code: u8) -> &'static str {
+    match Fault::try_from(code) {
+        Ok(Fault::UnknownTag) => "no field has this tag",
+        Ok(Fault::WrongLength) => "a field of this tag has another length",
+        Ok(Fault::CutShort) => "the recording ends within this field",
+        _ => "a part of this field has a value that it cannot have",
     }
 }
 
 // The last line: how many events there were, or which field is refused, by its number and the offset of its tag.
 #[derive(Clone, Copy)]
-pub struct Ended(pub Result<usize, Refused>);
+pub struct Ended(pub Done);
 
 impl fmt::Display for Ended {
     fn fmt<W: fmt::Write>(&self, f: &mut fmt::Formatter<W>) -> fmt::Result {
-        match self.0 {
-            Ok(count) => write!(f, "{count} events, all read"),
-            Err(Refused { fault, at }) => {
-                let number = u8::from(fault);
-                let why = why(fault);
-                write!(f, "refused {number} at offset {at}: {why}")
-            }
+        let Done { code, at, count } = self.0;
+        if code == 0 {
+            return write!(f, "{count} events, all read");
         }
+        let why = why(code);
+        write!(f, "refused {code} at offset {at}: {why}")
     }
 }

@@ -1,6 +1,5 @@
 -- A recording read byte by byte, in whatever parts it comes (document 02, K8).
 --   LONGEST                how many bytes the longest field has
---   Stream, stream_of      where reading stands between two bytes; the same as the code has it
 --   begun                  before the first byte
 --   counted, judged        one field more, if it is whole; what is known once a field has so many bytes
 --   opened, longer, grown, took   the first byte of a field; one more; one byte of the recording
@@ -12,28 +11,15 @@
 use Rattle.std.specs.Prelude.{ℕ, ◌+◌, ◌%◌, ◌^◌, Bool, ◌&&◌, List, [], ◌∷◌, take, replicate, ◌==◌, nat_lt, slice_set}
 use Rattle.ground.specs.Choose.{pick}
 use Rattle.recording.specs.declared.event.Event.{Event}
-use Rattle.recording.specs.Fault.{code_of}
-use Rattle.recording.specs.Scan.{Done, done}
+use Rattle.recording.specs.declared.reading.Done.{Done}
+use Rattle.recording.specs.Scan.{done}
 use Rattle.recording.specs.Event.{CUT-SHORT}
 use Rattle.recording.specs.Field.{event_in, field_code}
-use Rattle.stream.specs.declared.Stream as Streams
+use Rattle.stream.specs.declared.Stream.{Stream}
 
 -- setup's: tag and length, 13 bytes of numbers, and the set
 abbrev pub LONGEST : ℕ
 LONGEST = 144
-
--- the bytes of the field that is being read, and how many they are; what is at fault in them so far (15: more must come; 0: the field is whole); the offset
--- of its tag; and how many fields were whole
-pub record Stream : Type 0 where
-  pub field : List ℕ
-  pub fill : ℕ
-  pub code : ℕ
-  pub at : ℕ
-  pub count : ℕ
-
--- the code's, which has nothing at fault or a fault
-abbrev pub stream_of : Streams.Stream → Stream
-stream_of s = record { field = s.field; fill = s.fill; code = code_of s.state; at = s.at; count = s.count }
 
 -- no field yet, at offset 0
 abbrev pub begun : Stream

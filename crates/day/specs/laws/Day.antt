@@ -20,7 +20,8 @@ use Rattle.recording.specs.declared.event.Event.{Event}
 use Rattle.recording.specs.Scan as whole
 use Rattle.recording.specs.Scan.{scanned, heard}
 use Rattle.recording.specs.Pass.{Kept, kept}
-use Rattle.stream.specs.Stream.{Stream, begun, took, ready, event, news, gives}
+use Rattle.stream.specs.declared.Stream.{Stream}
+use Rattle.stream.specs.Stream.{begun, took, ready, event, news, gives}
 use Rattle.stream.specs.laws.Whole.{given_heard}
 use Rattle.replay.specs.Replay.{played, came}
 use Rattle.replay.specs.laws.Lists.{played_by}

@@ -14,7 +14,8 @@ use Rattle.driver.specs.Text.{Turned, Heard}
 use Rattle.driver.specs.laws.Heard.{heard_on}
 use Rattle.recording.specs.declared.event.Event.{Event}
 use Rattle.recording.specs.Pass.{Kept, kept}
-use Rattle.stream.specs.Stream.{Stream, took, ready, event}
+use Rattle.stream.specs.declared.Stream.{Stream}
+use Rattle.stream.specs.Stream.{took, ready, event}
 use Rattle.day.specs.Names.{View, viewed}
 use Rattle.day.specs.Day.{Day, dawn, with_stream, told, after, left, happened, read, taken, on, same}
 

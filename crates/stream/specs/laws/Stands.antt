@@ -18,13 +18,15 @@ use Rattle.ground.specs.Choose.{pick}
 use Rattle.ground.specs.Machine.{run, gather}
 use Rattle.ground.specs.laws.Rows.{pick_true, pick-false}
 use Rattle.recording.specs.declared.event.Event.{Event}
-use Rattle.recording.specs.Scan.{Done, One, done, scanned, heard}
+use Rattle.recording.specs.declared.reading.Done.{Done}
+use Rattle.recording.specs.Scan.{One, done, scanned, heard}
 use Rattle.recording.specs.Layout.{field_length}
 use Rattle.recording.specs.Event.{CUT-SHORT}
 use Rattle.recording.specs.Field.{tag_in, event_in, field_code}
 use Rattle.recording.specs.laws.Codes.{code_good}
 use Rattle.recording.specs.laws.Scan.{scan_on, scan-end, goes, stops, one_good, Step, ended, good, bad, scan_step, at_good}
-use Rattle.stream.specs.Stream.{Stream, LONGEST, counted, judged, took, ready, event, news, gives}
+use Rattle.stream.specs.declared.Stream.{Stream}
+use Rattle.stream.specs.Stream.{LONGEST, counted, judged, took, ready, event, news, gives}
 use Rattle.stream.specs.laws.Steps.{took_first, took_on, took_none, grown_longer}
 use Rattle.stream.specs.laws.Front.{field_most, event_front, code_front, cut_room}
 

@@ -10,7 +10,8 @@ use Rattle.ground.specs.Choose.{pick}
 use Rattle.ground.specs.laws.Rows.{pick_true, pick-false}
 use Rattle.recording.specs.Event.{CUT-SHORT}
 use Rattle.recording.specs.Scan.{done}
-use Rattle.stream.specs.Stream.{Stream, LONGEST, opened, longer, grown, took, ended}
+use Rattle.stream.specs.declared.Stream.{Stream}
+use Rattle.stream.specs.Stream.{LONGEST, opened, longer, grown, took, ended}
 
 module _ (s : Stream) (b : ℕ) where
   -- a field that is not whole goes on, or nothing does

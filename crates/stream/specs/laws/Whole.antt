@@ -16,11 +16,13 @@ use Rattle.std.proofs.lemmas.Bool.{eqb-false}
 use Rattle.ground.specs.Machine.{run, gather}
 use Rattle.ground.specs.laws.Machine.{run-append}
 use Rattle.recording.specs.declared.event.Event.{Event}
-use Rattle.recording.specs.Scan.{Done, done, going, scan_one, scanned, checked, one_at, heard, read}
+use Rattle.recording.specs.declared.reading.Done.{Done}
+use Rattle.recording.specs.Scan.{done, going, scan_one, scanned, checked, one_at, heard, read}
 use Rattle.recording.specs.Event.{NO-ROOM}
 use Rattle.recording.specs.Scan as whole
 use Rattle.recording.specs.laws.Scan.{scan_on, scan-end, check_fault, check_full, check_all}
-use Rattle.stream.specs.Stream.{Stream, begun, took, gives, ended}
+use Rattle.stream.specs.declared.Stream.{Stream}
+use Rattle.stream.specs.Stream.{begun, took, gives, ended}
 use Rattle.stream.specs.laws.Steps.{ended_good, ended_bad}
 use Rattle.stream.specs.laws.Stands.{reached, reached_tag, Stands, after, Reads, reads}
 
