@@ -15,7 +15,8 @@ use Rattle.calls.specs.declared.call.Call.{Call}
 use Rattle.calls.specs.Calls.{asking, setting_up}
 use Rattle.recording.specs.declared.event.Event.{Event}
 use Rattle.recording.specs.Pass.{Kept, kept}
-use Rattle.replay.specs.Replay.{Played, begun, replayed}
+use Rattle.replay.specs.declared.play.Played.{Played}
+use Rattle.replay.specs.Replay.{begun, replayed}
 use Rattle.replay.specs.Calls.{call_of}
 
 -- an event without a set

@@ -4,7 +4,7 @@
 --   played             the record and the memory after one event
 --   came               the calls and host writes that a list of events comes to
 --   plays              one event with a list lent to it: its answer, and everything that it leaves
---   Played, played_of  how a replay stands; the same as the code has it
+--   played_of          how a replay stands, by a record or a refusal
 --   begun, replayed    a replay at its start, and one event of it
 -- Not here: that a replay is `run` over what its events come to, in laws/Replay.
 -- Assumes nothing.
@@ -20,6 +20,7 @@ use Rattle.calls.specs.Events as Calls
 use Rattle.recording.specs.declared.event.Event.{Event}
 use Rattle.recording.specs.Event.{event_code}
 use Rattle.recording.specs.Pass.{Kept, kept}
+use Rattle.replay.specs.declared.play.Played.{Played}
 use Rattle.replay.specs.Calls.{call_of}
 
 -- how many places the list of an event has: a sweep's recorded length
@@ -64,12 +65,7 @@ plays w xs e = pick (eqb (event_code e) 0) (pick (eqb e.tag 6) (wrote w xs e) (c
 
 -- ---- a replay
 
--- how a replay stands: the refusal number or 0, and the record
-pub record Played : Type 0 where
-  pub code : ℕ
-  pub mux : Mux
-
--- the code's: a record, or a refusal, which has a record of zeros
+-- how a replay stands, the refusal number or 0 with the record: a record, or a refusal, which has a record of zeros
 abbrev pub played_of : Result Mux Refusal → Played
 played_of (Ok u) = record { code = 0; mux = u }
 played_of (Err r) = record { code = number_of r; mux = no_mux }

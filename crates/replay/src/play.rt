@@ -21,6 +21,13 @@ pub const HOST_WRITE: u8 = Tag::HostWrite as u8;
 // The tag of a sweep.
 pub const SWEEP: u8 = Tag::Sweep as u8;
 
+// How a replay stands: the refusal number or 0, and the record.
+#[derive(Clone, Copy)]
+pub struct Played {
+    pub code: u8,
+    pub mux: Mux,
+}
+
 // A word written into the memory, where it has that word.
 fn put(mem: &mut [u16], address: u32, word: u32)
     ensures { mem.new ≡ put mem.old address word }
@@ -63,24 +70,43 @@ pub fn play(u: Mux, mem: &mut [u16], list: &mut [u16], e: Event) -> Result<Repli
     call_lent(u, mem, list, e)
 }
 
-// A replay at its start: a record of zeros, if the memory has its length.
-pub fn begin(words: usize) -> Result<Mux, Refusal>
-    ensures { played_of result ≡ begun words }
+// A record, or a refusal, which has a record of zeros.
+fn stands(found: Result<Mux, Refusal>) -> Played
+    ensures { result ≡ played_of found }
+{
+    match found {
+        Ok(mux) => Played { code: 0, mux },
+        Err(refusal) => Played {
+            code: u8::from(refusal),
+            mux: no_mux(),
+        },
+    }
+}
+
+// A replay at its start: a record of zeros, and 7 where the memory has another length.
+pub fn begin(words: usize) -> Played
+    ensures { result ≡ begun words }
 {
     if words != WORDS {
-        return Err(Refusal::BadMemory);
+        return stands(Err(Refusal::BadMemory));
     }
-    Ok(no_mux())
+    stands(Ok(no_mux()))
 }
 
 // One event of a replay, with a list of zeros of its own; no accepted sweep uses more than 4096 places. What the call refuses changes nothing.
-pub fn replay_one(s: Result<Mux, Refusal>, mem: &mut [u16], e: Event) -> Result<Mux, Refusal>
-    ensures { kept (played_of result) mem.new ≡ replayed (kept (played_of s) mem.old) e }
+pub fn replay_one(s: Played, mem: &mut [u16], e: Event) -> Played
+    ensures { kept result mem.new ≡ replayed (kept s mem.old) e }
 {
-    let u = s?;
+    if s.code != 0 {
+        return s;
+    }
+    let u = s.mux;
     let mut list = [0u16; 4096];
     match play(u, mem, &mut list, e) {
-        Ok(r) => Ok(r.mux),
-        Err(_) => Ok(u),
+        Ok(r) => Played {
+            code: 0,
+            mux: r.mux,
+        },
+        Err(_) => Played { code: 0, mux: u },
     }
 }

@@ -12,7 +12,8 @@ use Rattle.unit.specs.laws.Views.{number_one}
 use Rattle.unit.specs.Reply.{Replied, World, Outcome, outcome}
 use Rattle.recording.specs.declared.event.Event.{Event}
 use Rattle.recording.specs.Pass.{Kept, kept}
-use Rattle.replay.specs.Replay.{Played, played_of, plays, begun, replayed}
+use Rattle.replay.specs.declared.play.Played.{Played}
+use Rattle.replay.specs.Replay.{played_of, plays, begun, replayed}
 
 -- of one event: the answer with the record, the memory and the list
 pub play_one : (w : World) (d : List ℕ) (e : Event) (r s : Replied) (m n xs ys : List ℕ) → outcome r m xs ≡ plays w d e → outcome s n ys ≡ plays w d e → (r ≡ s) × ((m ≡ n) × (xs ≡ ys))

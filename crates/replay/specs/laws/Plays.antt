@@ -20,7 +20,8 @@ use Rattle.calls.specs.Events as Calls
 use Rattle.recording.specs.declared.event.Event.{Event}
 use Rattle.recording.specs.Event.{event_code}
 use Rattle.recording.specs.Pass.{Kept}
-use Rattle.replay.specs.Replay.{Played, room, put, happening, played, still, wrote, called, plays, begun, standing, replayed}
+use Rattle.replay.specs.declared.play.Played.{Played}
+use Rattle.replay.specs.Replay.{room, put, happening, played, still, wrote, called, plays, begun, standing, replayed}
 use Rattle.replay.specs.Calls.{call_of}
 
 module _ (w : World) (xs : List ℕ) (e : Event) where

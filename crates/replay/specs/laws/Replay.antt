@@ -20,7 +20,8 @@ use Rattle.calls.proofs.laws.Refusals.{step_refuses}
 use Rattle.recording.specs.declared.event.Event.{Event}
 use Rattle.recording.specs.Event.{event_code}
 use Rattle.recording.specs.Pass.{Kept, kept}
-use Rattle.replay.specs.Replay.{Played, room, happening, played, came, plays, begun, standing, replayed}
+use Rattle.replay.specs.declared.play.Played.{Played}
+use Rattle.replay.specs.Replay.{room, happening, played, came, plays, begun, standing, replayed}
 use Rattle.replay.specs.Calls.{call_of}
 use Rattle.replay.specs.laws.Plays.{plays_call, played_bad, played_good, played_call, stopped, goes_on, begins, begins_not}
 use Rattle.replay.specs.laws.Lists.{call_same}

@@ -2,8 +2,8 @@
 use Rattle.std.proofs.Common.{◌≡◌, drop}
 use Rattle.ground.specs.Machine.{run}
 use Rattle.recording.specs.Pass.{kept}
-use Rattle.replay.specs.Replay.{played_of, replayed}
+use Rattle.replay.specs.Replay.{replayed}
 use Rattle.replay.proofs.walk.replay_on.Given as goal
 
 abbrev pub invariant-loop-e : goal.invariant-loop-e
-invariant-loop-e l = run replayed (kept (played_of l.w) l.mem) (drop l.e-index l.events) ≡ run replayed (kept (played_of l.initial.w) l.initial.mem) l.events
+invariant-loop-e l = run replayed (kept l.w l.mem) (drop l.e-index l.events) ≡ run replayed (kept l.initial.w l.initial.mem) l.events
