@@ -147,11 +147,26 @@ impl Day {
         }
         Ok(())
     }
+
+    // A whole day, from its dawn on, on the memory that there is.
+    fn play_all<R: Read>(
+        &mut self,
+        reader: &mut R,
+        rt: &impl Print,
+        errors: Stderr,
+    ) -> io::Result<()>
+        ensures { HeardFrom (R.remaining reader.old) (R.remaining reader.new) taken (kept dawn self.old.lent) self.new }
+    {
+        self.stream = stream::begin();
+        self.unit = no_mux();
+        self.begin = [0; 128];
+        self.read_all(reader, rt, errors)
+    }
 }
 
 fn main(rt: HostRuntime) {
     let mut day = Day::dawn([0; 32768]);
-    let _ = match day.read_all(&mut rt.reader(), &rt, rt.stderr()) {
+    let _ = match day.play_all(&mut rt.reader(), &rt, rt.stderr()) {
         Ok(()) => println!(rt; "{}", Ended(stream::end(day.stream))),
         Err(_) => println!(rt; "reading failed"),
     };

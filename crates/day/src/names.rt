@@ -22,7 +22,7 @@ pub struct Look {
 }
 
 // What stands in port p's.
-fn look_at(s: Setting, mem: &Memory, p: u32) -> Look
+fn look_at(s: Setting, mem: &[u16], p: u32) -> Look
     ensures { result ≡ look_of s mem.now p }
 {
     Look {
@@ -32,7 +32,7 @@ fn look_at(s: Setting, mem: &Memory, p: u32) -> Look
 }
 
 // What stands in those of every port, a place past the last port too.
-pub fn viewed(s: Setting, mem: &Memory) -> [Look; 128]
+pub fn viewed(s: Setting, mem: &[u16]) -> [Look; 128]
     ensures { view_of result ≡ viewed s mem.now }
 {
     array::from_fn(|p| look_at(s, mem, p as u32))

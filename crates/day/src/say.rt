@@ -1,6 +1,8 @@
 // One event in words, and the last line.
+ghost use Rattle.std.specs.Prelude.{◌≡◌};
+ghost use Rattle.day.specs.Words.{why};
+
 use recording::event::Event;
-use recording::fault::Fault;
 use recording::reading::Done;
 use recording::tag::Tag;
 use replay::call::call_of;
@@ -69,12 +71,15 @@ impl fmt::Display for Played<'_> {
     }
 }
 
-// Why a field is refused.
-fn why(code: u8) -> &'static str {
-    match Fault::try_from(code) {
-        Ok(Fault::UnknownTag) => "no field has this tag",
-        Ok(Fault::WrongLength) => "a field of this tag has another length",
-        Ok(Fault::CutShort) => "the recording ends within this field",
+// Why a field is refused, by the number that a `Done` has of it.
+#[tactic(auto, unfolding(ground::specs::Choose::pick, crate::specs::Words::why))]
+fn why(code: u8) -> &'static str
+    ensures { result.now ≡ why code }
+{
+    match code {
+        13 => "no field has this tag",
+        14 => "a field of this tag has another length",
+        15 => "the recording ends within this field",
         _ => "a part of this field has a value that it cannot have",
     }
 }
