@@ -8,13 +8,11 @@ use Rattle.words.specs.Byte.{word_if, byte_if}
 use Rattle.input.specs.Plan.{Plan, planned, plan_of}
 use Rattle.input.specs.Input.{carried}
 
--- the byte and ICW are looked at only where they are stored
+-- the byte is looked at only where it is stored
 pub carried_planned : (p : Plan) (a next : ℕ) (m : List ℕ) → carried (plan_of (planned p)) a next m ≡ carried p a next m
 unfolding carried word_if byte_if pick
-carried_planned p a next m = by p.store p.write
+carried_planned p a next m = by p.store
   where
-    by : (s w : Bool) → word_if (is_some (then_some w p.icw)) (byte_if (is_some (then_some s p.byte)) (word_if (is_some (then_some s p.byte)) m (a + at_ibp) next) next (unwrap_or (then_some s p.byte) 0)) (a + at_icw) (unwrap_or (then_some w p.icw) 0) ≡ word_if w (byte_if s (word_if s m (a + at_ibp) next) next p.byte) (a + at_icw) p.icw
-    by true true = refl
-    by true false = refl
-    by false true = refl
-    by false false = refl
+    by : (s : Bool) → word_if p.write (byte_if (is_some (then_some s p.byte)) (word_if (is_some (then_some s p.byte)) m (a + at_ibp) next) next (unwrap_or (then_some s p.byte) 0)) (a + at_icw) p.icw ≡ word_if p.write (byte_if s (word_if s m (a + at_ibp) next) next p.byte) (a + at_icw) p.icw
+    by true = refl
+    by false = refl

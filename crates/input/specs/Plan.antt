@@ -1,6 +1,6 @@
 -- What an input service is to do, and how the code has it.
 --   Plan               the byte stored or not, ICW written or not, an echo or not, an interrupt or not
---   planned, plan_of   a plan as the code has it, where a byte or a word that is not stored is none; and what such a plan says
+--   planned, plan_of   a plan as the code has it, where a byte that is not stored is none; and what such a plan says
 --   error_number       the error code as the code has it, by the numbers of words' Codes
 -- Not here: which plan it is, in Input.
 -- Assumes nothing.
@@ -22,7 +22,7 @@ pub record Plan : Type 0 where
 -- as the code has it
 abbrev pub planned : Plan → Planned
 planned p =
-    record { stored = then_some p.store p.byte; icw = then_some p.write p.icw; echo = p.echo; raised = p.raised }
+    record { stored = then_some p.store p.byte; write = p.write; icw = p.icw; echo = p.echo; raised = p.raised }
 
 -- what it says
 abbrev pub plan_of : Planned → Plan
@@ -30,8 +30,8 @@ plan_of p =
     record {
       store = is_some p.stored;
       byte = unwrap_or p.stored 0;
-      write = is_some p.icw;
-      icw = unwrap_or p.icw 0;
+      write = p.write;
+      icw = p.icw;
       echo = p.echo;
       raised = p.raised;
     }

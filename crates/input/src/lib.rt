@@ -31,8 +31,8 @@ fn carry(mem: &mut Memory, at: usize, next: u16, plan: Plan)
         mem[at + IBP] = next;
         store(mem, next, byte);
     }
-    if let Some(icw) = plan.icw {
-        mem[at + ICW] = icw;
+    if plan.write {
+        mem[at + ICW] = plan.icw;
     }
 }
 

@@ -18,7 +18,8 @@ fn replaced_plan(icw: u16, code: ErrorCode, c: u8) -> Plan
     ensures { result ≡ planned (replaced_plan icw (error_number code) c) }
 {
     Plan {
-        icw: Some(replaced_icw(icw, code, c)),
+        write: true,
+        icw: replaced_icw(icw, code, c),
         ..Plan::default()
     }
 }
@@ -35,7 +36,8 @@ fn done_plan(icw: u16, code: ErrorCode, mark: bool, c: u8) -> Plan
     ensures { result ≡ planned (done_plan icw (error_number code) (bit mark) c) }
 {
     Plan {
-        icw: Some(done_icw(icw, code, mark, c)),
+        write: true,
+        icw: done_icw(icw, code, mark, c),
         raised: true,
         ..Plan::default()
     }
@@ -49,7 +51,8 @@ fn stored_plan(icw: u16, c: u8, last: bool, echo: bool, empty: bool) -> Plan
     let done = last || busy;
     Plan {
         stored: Some(stored_byte(is_ascii(icw), c)),
-        icw: done.then_some(done_icw(icw, ErrorCode::NoError, busy, c)),
+        write: done,
+        icw: done_icw(icw, ErrorCode::NoError, busy, c),
         echo: echo && empty,
         raised: done,
     }
