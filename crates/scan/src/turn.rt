@@ -4,7 +4,7 @@
 ghost use Rattle.std.specs.Prelude.{◌≡◌, ◌<◌};
 ghost use Rattle.unit.specs.Reply.{serviced, effect_of};
 ghost use Rattle.unit.specs.Sound.{Fits};
-ghost use Rattle.scan.specs.Turn.{service, took_output, took_input, took, turning, turned_of, idle_as, served_turn, turn};
+ghost use Rattle.scan.specs.Turn.{service, took_output, took_input, took, irq_after, turning, turned_of, idle_as, served_turn, turn};
 
 use interrupt::{Irq, Service, raise};
 use unit::effect::Effect;
@@ -81,6 +81,18 @@ fn idle_as(p: u32, q: Port, i: Irq) -> Turned
     }
 }
 
+// The interrupt side after a service of port p.
+fn irq_after(s: Setting, p: u32, i: Irq, k: Service, raised: bool) -> Irq
+    requires fits { Fits s }
+    requires p_lt_ports { p < s.ports }
+    ensures { result ≡ irq_after s p i k raised }
+{
+    if raised {
+        return raise(s.kind, i, k, address_at(s, p));
+    }
+    i
+}
+
 // A turn that goes to a service.
 fn served_turn(s: Setting, p: u32, q: Port, i: Irq, k: Service, mem: &mut Memory) -> Turned
     requires fits { Fits s }
@@ -96,11 +108,7 @@ fn served_turn(s: Setting, p: u32, q: Port, i: Irq, k: Service, mem: &mut Memory
             raised: e.raised,
         },
         port: took(k, q, e),
-        irq: if e.raised {
-            raise(s.kind, i, k, address_at(s, p))
-        } else {
-            i
-        },
+        irq: irq_after(s, p, i, k, e.raised),
     }
 }
 
@@ -111,11 +119,12 @@ pub fn turn(s: Setting, p: u32, q: Port, i: Irq, mem: &mut Memory) -> Turned
     requires p_lt_ports { p < s.ports }
     ensures { turning (turned_of result) mem.new ≡ turn s p q i mem.old }
 {
+    // Early returns, since the one value of an `if .. else` is copied once more at each turn.
     if q.held {
-        served_turn(s, p, q, i, Service::Input, mem)
-    } else if q.empty {
-        served_turn(s, p, q, i, Service::Output, mem)
-    } else {
-        idle_as(p, q, i)
+        return served_turn(s, p, q, i, Service::Input, mem);
     }
+    if q.empty {
+        return served_turn(s, p, q, i, Service::Output, mem);
+    }
+    idle_as(p, q, i)
 }
