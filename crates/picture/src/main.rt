@@ -39,7 +39,7 @@ impl Takes for Typing {
 fn print_picture(rt: &impl Print, line: Line) {
     let _ = match asked_for(line) {
         Some(asked) => rt.println(asked),
-        None => rt.println(ASK),
+        None => rt.write_all(ASK.as_bytes()),
     };
 }
 

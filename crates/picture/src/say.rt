@@ -7,9 +7,9 @@ use crate::draw::{Row, drawn};
 use framing::form::{Form, Parity, Stops};
 use std::fmt;
 
-// What a line that asks for no frame is answered.
+// What a line that asks for no frame is answered, with its line end: it is written whole, where a Display goes byte by byte.
 pub const ASK: &str =
-    "please type data bits (5 to 8), parity (0 none, 1 odd, 2 even), stop cells (2, 3 or 4) and a character (0 to 255)";
+    "please type data bits (5 to 8), parity (0 none, 1 odd, 2 even), stop cells (2, 3 or 4) and a character (0 to 255)\n";
 
 // The parity, in words.
 fn parity_words(parity: Parity) -> &'static str

@@ -9,7 +9,7 @@ ghost use Rattle.driver.specs.Text.{HeardFrom};
 ghost use Rattle.settings.specs.Typed.{blank};
 ghost use Rattle.settings.specs.Answer.{taken};
 
-use crate::say::answered;
+use crate::say::{Answer, PLEASE, answered};
 use crate::typed::{Line, blank, started, typed};
 use driver::read::{Takes, read_all};
 use std::io::Read;
@@ -31,7 +31,11 @@ impl Takes for Line {
 
 // The answer to a line, printed. Where printing fails the program goes on: there is no one to tell.
 fn print_answer(rt: &impl Print, t: Line) {
-    let _ = rt.println(answered(t));
+    let _ = match answered(t) {
+        // A Display goes byte by byte, and there is but one such line.
+        Answer::NotWhole => rt.write_all(PLEASE.as_bytes()),
+        answer => rt.println(answer),
+    };
 }
 
 // All that is typed, from a blank line on; the line at its end.

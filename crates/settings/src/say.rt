@@ -18,6 +18,10 @@ pub enum Answer {
     Refused { refusal: Refusal, instead: Setting },
 }
 
+// What a line that is not three numbers is answered, with its line end, as it is written whole.
+pub const PLEASE: &str =
+    "please type three decimal numbers below 4294967296: block size, ports, base; then m for a Mighty Mux\n";
+
 // The answer to a line.
 pub fn answered(t: Line) -> Answer
     ensures { Says result (answer_to t) }
@@ -72,10 +76,7 @@ impl fmt::Display for AsTyped {
 impl fmt::Display for Answer {
     fn fmt<W: fmt::Write>(&self, f: &mut fmt::Formatter<W>) -> fmt::Result {
         match *self {
-            Answer::NotWhole => write!(
-                f,
-                "please type three decimal numbers below 4294967296: block size, ports, base; then m for a Mighty Mux"
-            ),
+            Answer::NotWhole => write!(f, "{}", PLEASE.trim_end()),
             Answer::Accepted => write!(f, "accepted"),
             Answer::Refused { refusal, instead } => write!(
                 f,
