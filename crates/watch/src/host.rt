@@ -1,8 +1,9 @@
 // The session, part by part: a unit on its host's memory, what is asked of it and what its host writes, told in plain words on the way.
 ghost use Rattle.std.specs.Prelude.{◌≡◌};
+ghost use Rattle.unit.specs.Record.{no_mux};
 ghost use Rattle.processor.specs.declared.orders.Order.TheVariants.{Dias};
 ghost use Rattle.calls.specs.declared.call.Act.TheVariants.{Line, Processor, Inspect};
-ghost use Rattle.unit.specs.Reply.{reply_of};
+ghost use Rattle.unit.specs.Reply.{world, reply_of};
 ghost use Rattle.calls.specs.Calls.{performed};
 ghost use Rattle.words.specs.Codes.{at_ibp};
 ghost use Rattle.telling.specs.Look.{word_of};
@@ -44,6 +45,16 @@ impl Model for Host {
 }
 
 impl Host {
+    // A memory on which no unit is set up yet.
+    pub fn new(memory: Memory) -> Host
+        ensures { result ≡ world no_mux memory }
+    {
+        Host {
+            unit: no_mux(),
+            memory,
+        }
+    }
+
     // One thing asked of the unit. Only a sweep has a list, so it is given none.
     #[tactic(auto, unfolding(calls::specs::Calls::step_of))]
     fn asked(&mut self, act: Act) -> Result<Reply, Refusal>
@@ -145,29 +156,26 @@ impl Host {
 
     // A new unit of three ports, of that kind and with that set; a setup has no list either.
     #[tactic(auto, unfolding(crate::specs::Session::set_up, calls::specs::Calls::step_of))]
-    fn set_up(memory: Memory, kind: Kind, codes: [bool; 128]) -> Host
-        ensures { result ≡ set_up kind codes memory }
+    fn set_up(&mut self, kind: Kind, codes: [bool; 128])
+        ensures { self.new ≡ set_up kind codes self.old.memory }
     {
         let mut none = [0u16; 1];
-        let mut unit = no_mux();
-        let mut memory = memory;
+        self.unit = no_mux();
         let _ = door::call(
-            &mut unit,
-            &mut memory,
+            &mut self.unit,
+            &mut self.memory,
             &mut none,
             setting_up(three(kind, codes)),
         );
-        Host { unit, memory }
     }
 
     // The unit at the start of a session: it runs.
     #[tactic(auto, unfolding(crate::specs::Session::began))]
-    fn began(memory: Memory, kind: Kind, codes: [bool; 128]) -> Host
-        ensures { result ≡ began kind codes memory }
+    fn began(&mut self, kind: Kind, codes: [bool; 128])
+        ensures { self.new ≡ began kind codes self.old.memory }
     {
-        let mut host = Host::set_up(memory, kind, codes);
-        host.ordered(Order::Doc);
-        host
+        self.set_up(kind, codes);
+        self.ordered(Order::Doc);
     }
 
     // Port control at each port, and then the control blocks of the session.
@@ -184,12 +192,11 @@ impl Host {
 
     // Both, at an EDS-8 with that set.
     #[tactic(auto, unfolding(crate::specs::Session::opened))]
-    fn opened(rt: &impl Print, memory: Memory, codes: [bool; 128]) -> Host
-        ensures { result ≡ opened codes memory }
+    fn opened(&mut self, rt: &impl Print, codes: [bool; 128])
+        ensures { self.new ≡ opened codes self.old.memory }
     {
-        let mut host = Host::began(memory, Kind::Eds8, codes);
-        host.prepared(rt);
-        host
+        self.began(Kind::Eds8, codes);
+        self.prepared(rt);
     }
 
     // The first half of the name pu'uku, its glottal stop keyed as octal 174, and x at port 1.
@@ -215,16 +222,15 @@ impl Host {
         ask_input(&mut self.memory);
     }
 
-    // The whole session, at a unit with that set.
+    // The whole session, on the memory that there is, at a new unit with that set.
     #[tactic(auto, unfolding(crate::specs::Session::session))]
-    pub fn session(rt: &impl Print, memory: Memory, codes: [bool; 128]) -> Host
-        ensures { result ≡ session codes memory }
+    pub fn session(&mut self, rt: &impl Print, codes: [bool; 128])
+        ensures { self.new ≡ session codes self.old.memory }
     {
-        let mut host = Host::opened(rt, memory, codes);
-        host.first_half(rt);
-        host.asked_again(rt);
-        host.keyed_three(rt, b'u', b'k', b'u');
-        host
+        self.opened(rt, codes);
+        self.first_half(rt);
+        self.asked_again(rt);
+        self.keyed_three(rt, b'u', b'k', b'u');
     }
 
     // The buffer of port 0, from byte 2001 up to where IBP points.
@@ -285,23 +291,21 @@ impl Host {
 
     // A Mighty Mux in which three interrupts and a tick wait to be read.
     #[tactic(auto, unfolding(crate::specs::Session::waiting))]
-    fn waiting(rt: &impl Print, memory: Memory) -> Host
-        ensures { result ≡ waiting memory }
+    fn waiting(&mut self, rt: &impl Print)
+        ensures { self.new ≡ waiting self.old.memory }
     {
-        let mut host = Host::began(memory, Kind::MightyMux, set_1974());
-        host.piled(rt);
-        host.ticked(rt);
-        host
+        self.began(Kind::MightyMux, set_1974());
+        self.piled(rt);
+        self.ticked(rt);
     }
 
     // They are read, with one DIAS more than there are entries.
     #[tactic(auto, unfolding(crate::specs::Session::mighty))]
-    pub fn mighty(rt: &impl Print, memory: Memory) -> Host
-        ensures { result ≡ mighty memory }
+    pub fn mighty(&mut self, rt: &impl Print)
+        ensures { self.new ≡ mighty self.old.memory }
     {
-        let mut host = Host::waiting(rt, memory);
-        host.read_twice(rt);
-        host.read_twice(rt);
-        host
+        self.waiting(rt);
+        self.read_twice(rt);
+        self.read_twice(rt);
     }
 }

@@ -44,9 +44,11 @@ fn say_sweeps(rt: &impl Print, u: Mux, mem: &mut Memory, list: &mut [u16])
 fn main(rt: HostRuntime) {
     let mut list = [0u16; 4096];
     let _ = println!(rt; "the 1974 set, in which octal 174 is special");
-    let mut special = Host::session(&rt, [0; 32768], set_1974());
+    let mut special = Host::new([0; 32768]);
+    special.session(&rt, set_1974());
     let _ = println!(rt; "\nthe same set, but for octal 174, which is ordinary");
-    let ordinary = Host::session(&rt, [0; 32768], dictionary_set());
+    let mut ordinary = Host::new([0; 32768]);
+    ordinary.session(&rt, dictionary_set());
     let _ = println!(rt;
         "\noctal 174 special, buffer from byte 2001: {}",
         special.buffer()
@@ -59,5 +61,5 @@ fn main(rt: HostRuntime) {
     let _ = println!(rt;
         "\na Mighty Mux of 3 ports runs; the host asks for port control at each, and reads no status until all are done"
     );
-    Host::mighty(&rt, [0; 32768]);
+    Host::new([0; 32768]).mighty(&rt);
 }
