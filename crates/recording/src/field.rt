@@ -42,9 +42,11 @@ fn put_marks(out: &mut [u8], at: usize, set: [bool; 128]) -> usize
     requires { at + 128 ≤ length out.old }
     ensures { Put (marks_of true set) at out.old result out.new }
 {
-    let end = at + 128;
-    out[at..end].copy_from_slice(&set.map(u8::from));
-    end
+    // Place by place: the array's map goes one by one through a list of its own.
+    for k in 0..128 {
+        out[at + k] = u8::from(set[k]);
+    }
+    at + 128
 }
 
 // The four numbers of an event put into the list from a place on; the place after them.

@@ -1,16 +1,25 @@
--- `recording::event::none_marked` meets its contract: every code is asked.
-use Rattle.std.proofs.Common.{◌≡◌, Bool, not, ◌&&◌, List, [], ◌∷◌, refl, ap, ◌∙◌, rules, tests}
-use Rattle.std.specs.List.{list_all}
-use Rattle.std.proofs.lemmas.Iterator.{YieldsList-from_slice}
-use Rattle.std.proofs.lemmas.Iterator.Search.{all_from_yields_List}
+-- `recording::event::none_marked` meets its contract: each turn asks one code more.
+use Rattle.std.proofs.Common.{◌≡◌, ℕ, ◌+◌, ◌<◌, Bool, false, not, ◌&&◌, List, length, get_or, drop, sym, refl, ap, ◌∙◌, arith, rules}
+use Rattle.std.proofs.Math.Bool.{and_assoc, and-true}
+use Rattle.std.proofs.Math.Seq.{drop-length}
 use Rattle.recording.specs.Event.{none_marked}
+use Rattle.recording.specs.laws.Marks.{none_on}
 use Rattle.recording.proofs.event.none_marked.Goals as goal
 
-none_all : (set : List Bool) → list_all not set ≡ none_marked set
-unfolding none_marked
-none_all [] = refl
-none_all (b ∷ bs) = ap (λ (t : Bool). not b && t) (none_all bs)
+pub loop-yes-init : goal.loop-yes-init
+loop-yes-init c = refl
+
+pub loop-yes-preserved : goal.loop-yes-preserved
+loop-yes-preserved c =
+    let l = c.loop-yes in
+    let s = c.args.set in
+    let h : l.yes-index < length s = omega (arith, c.loop-yes-test.true) in
+    and_assoc l.none (not (get_or s l.yes-index false)) (none_marked (drop (l.yes-index + 1) s)) ∙ ap (λ (b : Bool). l.none && b) (sym (none_on s l.yes-index h)) ∙ l.invariant
 
 pub returns : goal.returns
+unfolding none_marked
 returns c =
-    all_from_yields_List not _ _ _ c.all.ensures.ran (YieldsList-from_slice c.args.set (cc)) (λ x b q k. search (rules, tests)) ∙ none_all c.args.set
+    let l = c.loop-yes in
+    let s = c.args.set in
+    let e : l.yes-index ≡ length s = search rules in
+    sym (and-true l.none) ∙ ap (λ (n : List Bool). l.none && none_marked n) (sym (ap (λ (k : ℕ). drop k s) e ∙ drop-length s)) ∙ l.invariant
